@@ -34,7 +34,7 @@ abbrev pub pin-table : Model → ℕ → List Row
 pin-table m household = record { applies = leb (length (m .households)) household; refusal = NoHousehold } ∷ []
 
 -- a refusal is answered, or else the value
-abbrev pub answer-by : {X : Type 0} → Option Refusal → X → Result X Refusal
+abbrev pub answer-by : {X E : Type 0} → Option E → X → Result X E
 answer-by None x = Ok x
 answer-by (Some e) x = Err e
 
@@ -43,7 +43,7 @@ abbrev pub answered : {X : Type 0} → List Row → X → Result X Refusal
 answered rows x = answer-by (first-applying rows) x
 
 -- a refusal leaves what was there
-abbrev pub left-by : {X : Type 0} → Option Refusal → X → X → X
+abbrev pub left-by : {X E : Type 0} → Option E → X → X → X
 left-by None before changed = changed
 left-by (Some e) before changed = before
 

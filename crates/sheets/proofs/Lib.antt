@@ -1,0 +1,6 @@
+pub mod Cutting
+pub mod Digits
+pub mod Splitting
+pub mod Reading
+pub mod Lawful
+pub mod Spelling

@@ -1,0 +1,6 @@
+use borrow.Author.Needs.{needs}
+use Rattle.sheets.proofs.Digits.{first-digit}
+use Rattle.sheets.proofs.fields.number.Needs as need
+
+pub returns-in-49-to-57 : need.returns-in-49-to-57
+returns-in-49-to-57 c = search (needs, first-digit)

@@ -1,0 +1,19 @@
+-- What a load of two sheets gives: the parish that they spell, or the first fault. Assumes nothing.
+use mathlib.Core.Path.{_≡_}
+use mathlib.Core.List.{List}
+use Prim.Native.Nat.{ℕ}
+use lib.ListN.{length}
+use Rattle.std.specs.declared.result.Result.{Result}
+use Rattle.std.specs.declared.result.Result.the-variants.{Ok, Err}
+use Rattle.parish.specs.Model.{Model, no-model}
+use Rattle.sheets.specs.declared.counts.Counts.{Counts}
+use Rattle.sheets.specs.declared.faults.LoadFault.{LoadFault}
+use Rattle.sheets.specs.Kinds.{households-kind, links-kind}
+use Rattle.sheets.specs.Lines.{and-then, sheet-read}
+
+-- the households sheet whole, then the links sheet
+abbrev pub loaded : List ℕ → List ℕ → Result Model LoadFault
+loaded households links = and-then (sheet-read households-kind no-model households) (λ m. sheet-read links-kind m links)
+
+abbrev pub counts-of : Model → Counts
+counts-of m = record { households = length (m .households); links = length (m .links) }
