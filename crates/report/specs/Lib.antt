@@ -1,3 +1,4 @@
 pub mod Bytes
 pub mod Texts
 pub mod Reports
+pub mod Parishes

@@ -17,3 +17,8 @@ loaded households links = and-then (sheet-read households-kind no-model househol
 
 abbrev pub counts-of : Model → Counts
 counts-of m = record { households = length (m .households); links = length (m .links) }
+
+-- a good load leaves the parish that the sheets spell; a bad one the parish that was there
+abbrev pub load-leaves : Result Model LoadFault → Model → Model
+load-leaves (Ok m) before = m
+load-leaves (Err f) before = before
