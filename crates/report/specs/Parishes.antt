@@ -6,8 +6,8 @@ use Rattle.std.specs.declared.result.Result.{Result}
 use Rattle.std.specs.declared.result.Result.the-variants.{Ok, Err}
 use Rattle.parish.specs.Model.{Model}
 use Rattle.parish.specs.Weights.{total-weight, cap-at}
-use Rattle.sheets.specs.declared.faults.LoadFault.{LoadFault}
-use Rattle.sheets.specs.Loads.{loaded}
+use Rattle.faults.specs.declared.LoadFault.{LoadFault}
+use Rattle.spelling.specs.Loads.{loaded}
 use Rattle.report.specs.declared.reports.Summary.{Summary}
 use Rattle.report.specs.Texts.{summary-text, fault-text}
 

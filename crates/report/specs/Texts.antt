@@ -4,8 +4,8 @@ use Prim.Native.Nat.{ℕ}
 use lib.Chars.{codes}
 use Rattle.std.specs.Written.{decimal}
 use Rattle.parish.specs.Refusals.{refusal-number}
-use Rattle.sheets.specs.declared.faults.LoadFault.{LoadFault}
-use Rattle.sheets.specs.Faults.{fault-refusal, fault-sheet, fault-line, fault-field}
+use Rattle.faults.specs.declared.LoadFault.{LoadFault}
+use Rattle.faults.specs.Faults.{fault-refusal, fault-sheet, fault-line, fault-field}
 use Rattle.report.specs.declared.reports.Summary.{Summary}
 
 -- numbers in decimal, with a comma, byte 44, between each two, and byte 10 at the end

@@ -17,11 +17,11 @@ mod tests {
     use parish::Refusal;
     use parish::refusals::RefusalDebug;
     use parish::refusals::RefusalPartialEq;
-    use sheets::FieldFault;
-    use sheets::LineFault;
-    use sheets::LoadFault;
-    use sheets::Place;
-    use sheets::Sheet;
+    use faults::FieldFault;
+    use faults::LineFault;
+    use faults::LoadFault;
+    use faults::Place;
+    use faults::Sheet;
     use std::test::*;
 
     const WORKED: Summary = Summary {

@@ -3,7 +3,7 @@ ghost use mathlib.Core.Path.{_≡_};
 ghost use Rattle.std.specs.declared.result.Result.the-variants.{Ok as Good};
 ghost use Rattle.parish.specs.Model.{no-model};
 ghost use Rattle.parish.specs.View.{view};
-ghost use Rattle.sheets.specs.Loads.{loaded, load-leaves};
+ghost use Rattle.spelling.specs.Loads.{loaded, load-leaves};
 ghost use Rattle.report.specs.Parishes.{summary-of, sheets-text};
 ghost use Rattle.report.specs.Reports.{Written};
 use super::reports::FaultReport;

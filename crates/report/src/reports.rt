@@ -5,7 +5,7 @@ ghost use Rattle.report.specs.Reports.{Written};
 ghost use Rattle.report.specs.Texts.{summary-text, fault-text};
 use super::rows::write_row;
 use parish::Refusal;
-use sheets::LoadFault;
+use faults::LoadFault;
 
 pub trait Report {
     // The bytes of the report.

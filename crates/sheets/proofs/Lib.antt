@@ -1,6 +1,1 @@
-pub mod Cutting
-pub mod Digits
-pub mod Splitting
-pub mod Reading
-pub mod Lawful
-pub mod Spelling
+mod Splitting

@@ -9,8 +9,8 @@ use denote.Ref.{RefT, now}
 use lib.Dec.{eqb}
 use lib.ListN.{length, set, take, drop}
 use Rattle.std.proofs.shelf.Lists.{append-assoc, append-nil, length-append, length-map, length-set, length-take-le, map-push, take-all, take-more-set}
-use Rattle.sheets.specs.Pieces.{pieces}
-use Rattle.sheets.proofs.Cutting.{pieces-some}
+use Rattle.spelling.specs.Pieces.{pieces}
+use Rattle.spelling.proofs.Cutting.{pieces-some}
 
 module _ (b n : ℕ) (fields : List (RefT (List ℕ))) (rest : List ℕ) (all : List (List ℕ)) (within : n ≤ length fields)
     (so-far : map now (take n fields) ++ pieces b rest ≡ all) where

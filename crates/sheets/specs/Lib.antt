@@ -1,8 +1,1 @@
-pub mod Faults
-pub mod Pieces
-pub mod Fields
-pub mod Kinds
-pub mod Lines
-pub mod Loads
-pub mod Laws
 pub mod Spots

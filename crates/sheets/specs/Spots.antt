@@ -5,12 +5,12 @@ use Prim.Native.Nat.{ℕ}
 use lib.Dec.{eqb}
 use Rattle.std.specs.declared.option.Option.{Option}
 use Rattle.std.specs.declared.option.Option.the-variants.{Some, None}
-use Rattle.sheets.specs.declared.faults.LoadFault.{LoadFault}
-use Rattle.sheets.specs.declared.faults.Place.{Place}
-use Rattle.sheets.specs.declared.faults.Sheet.{Sheet}
-use Rattle.sheets.specs.declared.faults.Sheet.the-variants.{Households, Links}
-use Rattle.sheets.specs.Faults.{fault-place, fault-field}
-use Rattle.sheets.specs.Pieces.{pieces, numbered}
+use Rattle.faults.specs.declared.LoadFault.{LoadFault}
+use Rattle.faults.specs.declared.Place.{Place}
+use Rattle.faults.specs.declared.Sheet.{Sheet}
+use Rattle.faults.specs.declared.Sheet.the-variants.{Households, Links}
+use Rattle.faults.specs.Faults.{fault-place, fault-field}
+use Rattle.spelling.specs.Pieces.{pieces, numbered}
 
 abbrev pub chosen : Sheet → List ℕ → List ℕ → List ℕ
 chosen Households households links = households

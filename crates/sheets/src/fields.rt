@@ -7,10 +7,10 @@ ghost use lib.Dec.{eqb};
 ghost use lib.ListN.{length};
 ghost use denote.Ref.{now as held};
 ghost use Rattle.std.specs.Options.{okOr};
-ghost use Rattle.sheets.specs.Fields.{read-on, number-of, pin-of};
-ghost use Rattle.sheets.specs.Pieces.{pieces};
-use super::faults::FieldFault;
-use super::faults::Place;
+ghost use Rattle.spelling.specs.Fields.{read-on, number-of, pin-of};
+ghost use Rattle.spelling.specs.Pieces.{pieces};
+use faults::FieldFault;
+use faults::Place;
 use super::reader::Reader;
 use parish::Lot;
 

@@ -1,13 +1,13 @@
 // The two kinds of sheet. One reader serves both.
 ghost use mathlib.Core.Path.{_≡_};
 ghost use Rattle.parish.specs.View.{view};
-ghost use Rattle.sheets.specs.Kinds.{Kind, households-kind, links-kind, blamed-in-household, blamed-in-link};
-ghost use Rattle.sheets.specs.Lines.{spelt, Added, household-by, link-by};
-use super::faults::LineFault;
-use super::faults::LineFromField;
-use super::faults::ParishFault;
-use super::faults::Place;
-use super::faults::Sheet;
+ghost use Rattle.spelling.specs.Kinds.{Kind, households-kind, links-kind, blamed-in-household, blamed-in-link};
+ghost use Rattle.spelling.specs.Lines.{spelt, Added, household-by, link-by};
+use faults::LineFault;
+use faults::LineFromField;
+use faults::ParishFault;
+use faults::Place;
+use faults::Sheet;
 use super::fields::number_field;
 use super::fields::pin_field;
 use super::fields::split;

@@ -3,7 +3,7 @@ ghost use mathlib.Core.Path.{_≡_};
 ghost use Prim.Native.Nat.{ℕ, _+_, _<_, _≤_};
 ghost use lib.ListN.{length, getD, drop};
 ghost use denote.Ref.{now as held};
-ghost use Rattle.sheets.specs.Pieces.{Parted};
+ghost use Rattle.spelling.specs.Pieces.{Parted};
 
 // Bytes, and how many of them have been read.
 #[derive(Drop)]

@@ -1,9 +1,9 @@
 // The part of a sheet that a fault points at.
 ghost use mathlib.Core.Path.{_≡_};
-ghost use Rattle.sheets.specs.Pieces.{pieces, numbered};
+ghost use Rattle.spelling.specs.Pieces.{pieces, numbered};
 ghost use Rattle.sheets.specs.Spots.{spot-of};
-use super::faults::LoadFault;
-use super::faults::Sheet;
+use faults::LoadFault;
+use faults::Sheet;
 use super::reader::Reader;
 
 // The part of a number, counted from 1, between bytes `end`; an empty part where there is none.

@@ -1,8 +1,8 @@
 use borrow.Author.Needs.{needs}
 use mathlib.Core.Path.{_∙_, sym}
 use Rattle.std.proofs.shelf.Lists.{at-drop-all}
-use Rattle.sheets.specs.Fields.{read-on}
-use Rattle.sheets.proofs.Digits.{digit-high, digit-small, read-step, read-stop, power-step, power-bound}
+use Rattle.spelling.specs.Fields.{read-on}
+use Rattle.spelling.proofs.Digits.{digit-high, digit-small, read-step, read-stop, power-step, power-bound}
 use Rattle.sheets.proofs.fields.digits_after.Needs as need
 
 pub returns-then-not-is-ascii-digit : need.returns-then-not-is-ascii-digit

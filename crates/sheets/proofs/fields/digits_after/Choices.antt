@@ -1,7 +1,7 @@
 use mathlib.Core.Path.{_≡_}
 use Prim.Native.Nat.{_+_, _<_, _^_}
 use lib.ListN.{drop}
-use Rattle.sheets.specs.Fields.{read-on}
+use Rattle.spelling.specs.Fields.{read-on}
 use Rattle.sheets.proofs.fields.digits_after.Given as given
 
 abbrev pub Inv-loop-digit : given.InvT-loop-digit

@@ -4,7 +4,7 @@ use mathlib.Core.Bool.{true, false}
 use denote.Ref.{now}
 use lib.Dec.{eqb}
 use lib.ListN.{drop, length}
-use Rattle.sheets.specs.Pieces.{pieces}
+use Rattle.spelling.specs.Pieces.{pieces}
 use Rattle.sheets.proofs.Splitting.{split-over, split-under, split-counts, split-more, split-fills}
 use Rattle.sheets.proofs.fields.split.Needs as need
 

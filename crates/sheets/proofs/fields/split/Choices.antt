@@ -3,7 +3,7 @@ use mathlib.Core.List.{map, _++_}
 use Prim.Native.Nat.{_≤_}
 use lib.ListN.{length, take, drop}
 use denote.Ref.{now}
-use Rattle.sheets.specs.Pieces.{pieces}
+use Rattle.spelling.specs.Pieces.{pieces}
 use Rattle.sheets.proofs.fields.split.Given as given
 
 abbrev pub Inv-loop-field : given.InvT-loop-field

@@ -6,9 +6,9 @@ use denote.Ref.{now}
 use lib.ListN.{drop, length}
 use Rattle.std.proofs.shelf.Results.{err-from-errBy}
 use Rattle.parish.specs.View.{view}
-use Rattle.sheets.specs.Lines.{lines-read}
-use Rattle.sheets.specs.Pieces.{pieces}
-use Rattle.sheets.proofs.Reading.{line-unspelt, line-refused, line-added}
+use Rattle.spelling.specs.Lines.{lines-read}
+use Rattle.spelling.specs.Pieces.{pieces}
+use Rattle.spelling.proofs.Reading.{line-unspelt, line-refused, line-added}
 use Rattle.sheets.proofs.loading.read_lines.Needs as need
 
 pub returns-in-Break-record : need.returns-in-Break-record

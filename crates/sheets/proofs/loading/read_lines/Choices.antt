@@ -3,8 +3,8 @@ use Prim.Native.Nat.{_+_, _≤_, _^_, _<_}
 use lib.ListN.{length, drop}
 use denote.Ref.{now}
 use Rattle.parish.specs.View.{view}
-use Rattle.sheets.specs.Lines.{lines-read}
-use Rattle.sheets.specs.Pieces.{pieces}
+use Rattle.spelling.specs.Lines.{lines-read}
+use Rattle.spelling.specs.Pieces.{pieces}
 use Rattle.sheets.proofs.loading.read_lines.Given as given
 
 abbrev pub Inv-loop-line : given.InvT-loop-line

@@ -5,12 +5,12 @@ use lib.ListN.{drop}
 use Rattle.std.proofs.shelf.Equals.{matches-decides}
 use Rattle.std.specs.declared.result.Result.the-variants.{Err}
 use Rattle.parish.specs.View.{view}
-use Rattle.sheets.specs.declared.faults.LineFault.the-variants.{WrongNames}
-use Rattle.sheets.specs.declared.faults.LoadFault.the-variants.{Line}
-use Rattle.sheets.specs.Lines.{Read, lines-read}
-use Rattle.sheets.specs.Pieces.{pieces}
-use Rattle.sheets.proofs.Cutting.{unread-all}
-use Rattle.sheets.proofs.Reading.{names-wrong, names-right}
+use Rattle.faults.specs.declared.LineFault.the-variants.{WrongNames}
+use Rattle.faults.specs.declared.LoadFault.the-variants.{Line}
+use Rattle.spelling.specs.Lines.{Read, lines-read}
+use Rattle.spelling.specs.Pieces.{pieces}
+use Rattle.spelling.proofs.Cutting.{unread-all}
+use Rattle.spelling.proofs.Reading.{names-wrong, names-right}
 use Rattle.sheets.proofs.loading.read_sheet.Needs as need
 
 pub returns-then-ne : need.returns-then-ne

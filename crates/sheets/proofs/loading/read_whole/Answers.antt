@@ -2,7 +2,7 @@ use borrow.Author.Needs.{needs}
 use mathlib.Core.Path.{ap, _∙_}
 use lib.ListN.{length}
 use Rattle.std.proofs.shelf.Results.{err-from-errBy}
-use Rattle.sheets.proofs.Spelling.{load-good, load-bad}
+use Rattle.spelling.proofs.Spelling.{load-good, load-bad}
 use Rattle.sheets.proofs.loading.read_whole.Needs as need
 
 pub returns-in-Break-read-both : need.returns-in-Break-read-both

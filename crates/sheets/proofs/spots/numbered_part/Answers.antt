@@ -1,7 +1,7 @@
 use borrow.Author.Needs.{needs}
 use mathlib.Core.Path.{_∙_, sym}
 use native.Mathlib.Omega.{arith}
-use Rattle.sheets.proofs.Cutting.{numbered-past}
+use Rattle.spelling.proofs.Cutting.{numbered-past}
 use Rattle.sheets.proofs.spots.numbered_part.Needs as need
 
 pub returns-in-rest : need.returns-in-rest

@@ -2,7 +2,7 @@ use mathlib.Core.Path.{_≡_}
 use Prim.Native.Nat.{_+_, _-_, _≤_}
 use lib.ListN.{drop}
 use denote.Ref.{now}
-use Rattle.sheets.specs.Pieces.{pieces, numbered}
+use Rattle.spelling.specs.Pieces.{pieces, numbered}
 use Rattle.sheets.proofs.spots.numbered_part.Given as given
 
 abbrev pub Inv-loop-i : given.InvT-loop-i

@@ -1,5 +1,5 @@
 use mathlib.Core.Path.{_∙_, refl}
-use Rattle.sheets.proofs.Lawful.{household-spelt}
+use Rattle.spelling.proofs.Lawful.{household-spelt}
 use Rattle.sheets.proofs.kinds.HouseholdsKind.record.Needs as need
 
 pub returns : need.returns

@@ -1,5 +1,5 @@
 use mathlib.Core.Path.{_∙_, refl}
-use Rattle.sheets.proofs.Lawful.{link-spelt}
+use Rattle.spelling.proofs.Lawful.{link-spelt}
 use Rattle.sheets.proofs.kinds.LinksKind.record.Needs as need
 
 pub returns : need.returns

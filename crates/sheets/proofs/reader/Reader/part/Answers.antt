@@ -1,7 +1,7 @@
 use mathlib.Core.Path.{refl}
 use native.Mathlib.Nat.{sub-zero}
 use native.Mathlib.Omega.{arith}
-use Rattle.sheets.proofs.Cutting.{part-found, part-none}
+use Rattle.spelling.proofs.Cutting.{part-found, part-none}
 use Rattle.sheets.proofs.reader.Reader.part.Needs as need
 
 pub returns-then-n-rest : need.returns-then-n-rest

@@ -26,9 +26,9 @@ use Rattle.std.specs.declared.option.Option.{Option}
 use Rattle.std.specs.declared.option.Option.the-variants.{Some, None}
 use Rattle.parish.specs.declared.items.Lot.{Lot}
 use Rattle.parish.specs.declared.items.Lot.the-variants.{A, B}
-use Rattle.sheets.specs.Fields.{digits-after, read-on, lone-zero, number-of, Number-fields, same, pin-byte, pin-of, pin-field, Pin-fields}
-use Rattle.sheets.specs.Laws.{Plain}
-use Rattle.sheets.specs.Pieces.{Lacks}
+use Rattle.spelling.specs.Fields.{digits-after, read-on, lone-zero, number-of, Number-fields, same, pin-byte, pin-of, pin-field, Pin-fields}
+use Rattle.spelling.specs.Laws.{Plain}
+use Rattle.spelling.specs.Pieces.{Lacks}
 
 -- the number that digits write
 abbrev digits-value : List ℕ → ℕ

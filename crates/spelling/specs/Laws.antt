@@ -11,15 +11,15 @@ use Rattle.std.specs.declared.result.Result.the-variants.{Ok, Err}
 use Rattle.parish.specs.declared.refusals.Refusal.{Refusal}
 use Rattle.parish.specs.declared.items.Household.{Household}
 use Rattle.parish.specs.Model.{Model, Sound, no-model}
-use Rattle.sheets.specs.declared.faults.LineFault.the-variants.{WrongNames, WrongCount, Field}
-use Rattle.sheets.specs.declared.faults.LoadFault.{LoadFault}
-use Rattle.sheets.specs.declared.faults.LoadFault.the-variants.{Line, Parish}
-use Rattle.sheets.specs.declared.faults.Place.{Place}
-use Rattle.sheets.specs.Kinds.{Kind, households-kind, links-kind}
-use Rattle.sheets.specs.declared.counts.Counts.{Counts}
-use Rattle.sheets.specs.Lines.{place-of}
-use Rattle.sheets.specs.Loads.{loaded, counts-of}
-use Rattle.sheets.specs.Pieces.{glued, Lacks}
+use Rattle.faults.specs.declared.LineFault.the-variants.{WrongNames, WrongCount, Field}
+use Rattle.faults.specs.declared.LoadFault.{LoadFault}
+use Rattle.faults.specs.declared.LoadFault.the-variants.{Line, Parish}
+use Rattle.faults.specs.declared.Place.{Place}
+use Rattle.spelling.specs.Kinds.{Kind, households-kind, links-kind}
+use Rattle.spelling.specs.declared.counts.Counts.{Counts}
+use Rattle.spelling.specs.Lines.{place-of}
+use Rattle.spelling.specs.Loads.{loaded, counts-of}
+use Rattle.spelling.specs.Pieces.{glued, Lacks}
 
 -- a line: its fields with commas between them, and byte 10
 abbrev pub line-of : List (List ℕ) → List ℕ

@@ -16,15 +16,15 @@ use Rattle.parish.specs.declared.items.Link.{Link}
 use Rattle.parish.specs.declared.refusals.Refusal.{Refusal}
 use Rattle.parish.specs.Edits.{answer-by}
 use Rattle.parish.specs.Model.{Model}
-use Rattle.sheets.specs.declared.faults.LineFault.{LineFault}
-use Rattle.sheets.specs.declared.faults.LineFault.the-variants.{WrongNames, WrongCount, Field}
-use Rattle.sheets.specs.declared.faults.LoadFault.{LoadFault}
-use Rattle.sheets.specs.declared.faults.LoadFault.the-variants.{Line, Parish}
-use Rattle.sheets.specs.declared.faults.ParishFault.{ParishFault}
-use Rattle.sheets.specs.declared.faults.Place.{Place}
-use Rattle.sheets.specs.Fields.{same, number-of, pin-of}
-use Rattle.sheets.specs.Kinds.{Kind}
-use Rattle.sheets.specs.Pieces.{pieces}
+use Rattle.faults.specs.declared.LineFault.{LineFault}
+use Rattle.faults.specs.declared.LineFault.the-variants.{WrongNames, WrongCount, Field}
+use Rattle.faults.specs.declared.LoadFault.{LoadFault}
+use Rattle.faults.specs.declared.LoadFault.the-variants.{Line, Parish}
+use Rattle.faults.specs.declared.ParishFault.{ParishFault}
+use Rattle.faults.specs.declared.Place.{Place}
+use Rattle.spelling.specs.Fields.{same, number-of, pin-of}
+use Rattle.spelling.specs.Kinds.{Kind}
+use Rattle.spelling.specs.Pieces.{pieces}
 
 abbrev pub and-then : {X Y E : Type 0} → Result X E → (X → Result Y E) → Result Y E
 and-then (Ok x) f = f x

@@ -1,7 +1,7 @@
 // What the definitions mean, in plain words. Each function only carries its theorem.
-ghost use Rattle.sheets.specs.Fields.{Number-fields, Pin-fields};
-ghost use Rattle.sheets.specs.Laws.{Spelling-is-unique};
-ghost use Rattle.sheets.specs.Pieces.{Pieces-are-the-cut};
+ghost use Rattle.spelling.specs.Fields.{Number-fields, Pin-fields};
+ghost use Rattle.spelling.specs.Laws.{Spelling-is-unique};
+ghost use Rattle.spelling.specs.Pieces.{Pieces-are-the-cut};
 
 // Cutting at a byte gives the one list of pieces that have no such byte and are the text when put together again.
 pub fn pieces_are_the_cut() -> u8

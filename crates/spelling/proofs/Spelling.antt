@@ -8,14 +8,14 @@ use lib.ListN.{length}
 use Rattle.std.specs.declared.result.Result.{Result}
 use Rattle.std.specs.declared.result.Result.the-variants.{Ok, Err}
 use Rattle.parish.specs.Model.{Model, Sound, no-model}
-use Rattle.sheets.specs.declared.counts.Counts.{Counts}
-use Rattle.sheets.specs.declared.faults.LoadFault.{LoadFault}
-use Rattle.sheets.specs.Kinds.{households-kind, links-kind}
-use Rattle.sheets.specs.Laws.{Loaded, Faulty, Spells, Sheet-fails, Load-fails, in-households, in-links, Spelling-is-unique}
-use Rattle.sheets.specs.Lines.{and-then, sheet-read}
-use Rattle.sheets.specs.Loads.{loaded, counts-of}
-use Rattle.sheets.proofs.Lawful.{households-lawful, links-lawful}
-use Rattle.sheets.proofs.Reading.{ok-or-not, and-then-ok, and-then-err, sheet-ok, sheet-err, sheet-back}
+use Rattle.spelling.specs.declared.counts.Counts.{Counts}
+use Rattle.faults.specs.declared.LoadFault.{LoadFault}
+use Rattle.spelling.specs.Kinds.{households-kind, links-kind}
+use Rattle.spelling.specs.Laws.{Loaded, Faulty, Spells, Sheet-fails, Load-fails, in-households, in-links, Spelling-is-unique}
+use Rattle.spelling.specs.Lines.{and-then, sheet-read}
+use Rattle.spelling.specs.Loads.{loaded, counts-of}
+use Rattle.spelling.proofs.Lawful.{households-lawful, links-lawful}
+use Rattle.spelling.proofs.Reading.{ok-or-not, and-then-ok, and-then-err, sheet-ok, sheet-err, sheet-back}
 
 no-model-sound : Sound no-model
 no-model-sound =

@@ -24,13 +24,13 @@ use Rattle.parish.specs.Edits.{Edited, answer-by, left-by, link-table}
 use Rattle.parish.specs.Limits.{Joins}
 use Rattle.parish.specs.Model.{Model, Sound}
 use Rattle.parish.specs.Refusals.{first-applying}
-use Rattle.sheets.specs.Fields.{number-of, pin-of, pin-field}
-use Rattle.sheets.specs.Kinds.{households-kind, links-kind, blamed-in-link}
-use Rattle.sheets.specs.declared.faults.Place.{Place}
-use Rattle.sheets.specs.Lines.{accepted as accepted-by, first-unwanted, spelt, spelt-by, household-by, link-by}
-use Rattle.sheets.specs.Pieces.{Lacks, pieces}
-use Rattle.sheets.proofs.Digits.{number-fields, number-plain, pin-fields, pin-of-field, pin-plain}
-use Rattle.sheets.proofs.Reading.{Lawful-kind, answer-err}
+use Rattle.spelling.specs.Fields.{number-of, pin-of, pin-field}
+use Rattle.spelling.specs.Kinds.{households-kind, links-kind, blamed-in-link}
+use Rattle.faults.specs.declared.Place.{Place}
+use Rattle.spelling.specs.Lines.{accepted as accepted-by, first-unwanted, spelt, spelt-by, household-by, link-by}
+use Rattle.spelling.specs.Pieces.{Lacks, pieces}
+use Rattle.spelling.proofs.Digits.{number-fields, number-plain, pin-fields, pin-of-field, pin-plain}
+use Rattle.spelling.proofs.Reading.{Lawful-kind, answer-err}
 
 -- a test that passed, and those after it
 passed : {X : Type 0} (t : Bool) (o : Option X) (x : X) → cond t o (Some x) ≡ None → (t ≡ true) × (o ≡ None)

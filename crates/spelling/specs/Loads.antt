@@ -6,10 +6,10 @@ use lib.ListN.{length}
 use Rattle.std.specs.declared.result.Result.{Result}
 use Rattle.std.specs.declared.result.Result.the-variants.{Ok, Err}
 use Rattle.parish.specs.Model.{Model, no-model}
-use Rattle.sheets.specs.declared.counts.Counts.{Counts}
-use Rattle.sheets.specs.declared.faults.LoadFault.{LoadFault}
-use Rattle.sheets.specs.Kinds.{households-kind, links-kind}
-use Rattle.sheets.specs.Lines.{and-then, sheet-read}
+use Rattle.spelling.specs.declared.counts.Counts.{Counts}
+use Rattle.faults.specs.declared.LoadFault.{LoadFault}
+use Rattle.spelling.specs.Kinds.{households-kind, links-kind}
+use Rattle.spelling.specs.Lines.{and-then, sheet-read}
 
 -- the households sheet whole, then the links sheet
 abbrev pub loaded : List ℕ → List ℕ → Result Model LoadFault

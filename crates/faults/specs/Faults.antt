@@ -4,15 +4,15 @@ use Rattle.std.specs.declared.option.Option.{Option}
 use Rattle.std.specs.declared.option.Option.the-variants.{Some, None}
 use Rattle.parish.specs.declared.refusals.Refusal.{Refusal}
 use Rattle.parish.specs.declared.refusals.Refusal.the-variants.{WrongNames, WrongCount, WrongField}
-use Rattle.sheets.specs.declared.faults.Sheet.{Sheet}
-use Rattle.sheets.specs.declared.faults.Sheet.the-variants.{Households, Links}
-use Rattle.sheets.specs.declared.faults.Place.{Place}
-use Rattle.sheets.specs.declared.faults.LineFault.{LineFault}
-use Rattle.sheets.specs.declared.faults.LineFault.the-variants as line
-use Rattle.sheets.specs.declared.faults.LoadFault.{LoadFault}
-use Rattle.sheets.specs.declared.faults.LoadFault.the-variants as load
-use Rattle.sheets.specs.declared.faults.Layer.{Layer}
-use Rattle.sheets.specs.declared.faults.Layer.the-variants as layer
+use Rattle.faults.specs.declared.Sheet.{Sheet}
+use Rattle.faults.specs.declared.Sheet.the-variants.{Households, Links}
+use Rattle.faults.specs.declared.Place.{Place}
+use Rattle.faults.specs.declared.LineFault.{LineFault}
+use Rattle.faults.specs.declared.LineFault.the-variants as line
+use Rattle.faults.specs.declared.LoadFault.{LoadFault}
+use Rattle.faults.specs.declared.LoadFault.the-variants as load
+use Rattle.faults.specs.declared.Layer.{Layer}
+use Rattle.faults.specs.declared.Layer.the-variants as layer
 
 abbrev pub sheet-number : Sheet → ℕ
 sheet-number Households = 1

@@ -20,19 +20,19 @@ use Rattle.std.specs.declared.result.Result.{Result}
 use Rattle.std.specs.declared.result.Result.the-variants.{Ok, Err}
 use Rattle.parish.specs.Edits.{answer-by}
 use Rattle.parish.specs.Model.{Model, Sound}
-use Rattle.sheets.specs.declared.faults.LineFault.{LineFault}
-use Rattle.sheets.specs.declared.faults.LineFault.the-variants.{WrongNames, WrongCount, Field}
-use Rattle.sheets.specs.declared.faults.LoadFault.{LoadFault}
-use Rattle.sheets.specs.declared.faults.LoadFault.the-variants.{Line, Parish}
-use Rattle.sheets.specs.declared.faults.ParishFault.{ParishFault}
-use Rattle.sheets.specs.declared.faults.Place.{Place}
-use Rattle.sheets.specs.Fields.{same}
-use Rattle.sheets.specs.Kinds.{Kind}
-use Rattle.sheets.specs.Laws.{line-of, sheet-of, never, Plain, Wanted, Line-fails, unended, miscounted, unwanted, refused, Sheet-fails, misnamed, bad-line}
-use Rattle.sheets.specs.Lines.{and-then, raised, first-unwanted, line-fault, place-of, spelt, accepted, line-read, tail-read, lines-read, all-read, sheet-read}
-use Rattle.sheets.specs.Pieces.{pieces, glued, Lacks}
-use Rattle.sheets.proofs.Cutting.{pieces-some, pieces-lack, pieces-free, pieces-at, pieces-glued, glued-pieces}
-use Rattle.sheets.proofs.Digits.{same-true, same-self, same-decides, differ}
+use Rattle.faults.specs.declared.LineFault.{LineFault}
+use Rattle.faults.specs.declared.LineFault.the-variants.{WrongNames, WrongCount, Field}
+use Rattle.faults.specs.declared.LoadFault.{LoadFault}
+use Rattle.faults.specs.declared.LoadFault.the-variants.{Line, Parish}
+use Rattle.faults.specs.declared.ParishFault.{ParishFault}
+use Rattle.faults.specs.declared.Place.{Place}
+use Rattle.spelling.specs.Fields.{same}
+use Rattle.spelling.specs.Kinds.{Kind}
+use Rattle.spelling.specs.Laws.{line-of, sheet-of, never, Plain, Wanted, Line-fails, unended, miscounted, unwanted, refused, Sheet-fails, misnamed, bad-line}
+use Rattle.spelling.specs.Lines.{and-then, raised, first-unwanted, line-fault, place-of, spelt, accepted, line-read, tail-read, lines-read, all-read, sheet-read}
+use Rattle.spelling.specs.Pieces.{pieces, glued, Lacks}
+use Rattle.spelling.proofs.Cutting.{pieces-some, pieces-lack, pieces-free, pieces-at, pieces-glued, glued-pieces}
+use Rattle.spelling.proofs.Digits.{same-true, same-self, same-decides, differ}
 
 -- what a kind of sheet has to keep
 pub record Lawful-kind {R : Type 0} (K : Kind R) : Type 0 where

@@ -15,10 +15,10 @@ use Rattle.parish.specs.declared.refusals.Refusal.the-variants.{SearchOpen, NoS
 use Rattle.parish.specs.Edits.{household-table, link-table}
 use Rattle.parish.specs.Model.{Model}
 use Rattle.parish.specs.Refusals.{first-applying}
-use Rattle.sheets.specs.declared.faults.Sheet.{Sheet}
-use Rattle.sheets.specs.declared.faults.Sheet.the-variants.{Households, Links}
+use Rattle.faults.specs.declared.Sheet.{Sheet}
+use Rattle.faults.specs.declared.Sheet.the-variants.{Households, Links}
 use Rattle.std.specs.Options.{isSome, valueOr}
-use Rattle.sheets.specs.Fields.{number-of, pin-of, pin-field}
+use Rattle.spelling.specs.Fields.{number-of, pin-of, pin-field}
 
 -- a field writes something
 abbrev pub writes : {X : Type 0} → (List ℕ → Option X) → List ℕ → Bool

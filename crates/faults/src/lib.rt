@@ -1,9 +1,9 @@
 // What can be wrong with a load, and where. A field's fault stands inside a line's fault, and that inside the load's:
 // an upper layer passes on the fault of a lower one whole.
 ghost use mathlib.Core.Path.{_≡_};
-ghost use Rattle.sheets.specs.declared.faults.LineFault.the-variants.{Field};
-ghost use Rattle.sheets.specs.declared.faults.LoadFault.the-variants.{Line, Parish};
-ghost use Rattle.sheets.specs.Faults.{line-fault-place, fault-refusal, fault-place, fault-sheet, fault-line, fault-field, fault-layer};
+ghost use Rattle.faults.specs.declared.LineFault.the-variants.{Field};
+ghost use Rattle.faults.specs.declared.LoadFault.the-variants.{Line, Parish};
+ghost use Rattle.faults.specs.Faults.{line-fault-place, fault-refusal, fault-place, fault-sheet, fault-line, fault-field, fault-layer};
 use parish::Refusal;
 use parish::refusals::RefusalDebug;
 use parish::refusals::RefusalPartialEq;

@@ -10,7 +10,7 @@ use lib.ListN.{length, getD, take, drop}
 use Rattle.std.proofs.shelf.Elements.{all-from-getD}
 use Rattle.std.proofs.shelf.Lists.{drop-drop, drop-more, getD-past, getD-take, length-drop, length-take-le, take-append-drop}
 use Rattle.std.specs.shelf.Lists.{All}
-use Rattle.sheets.specs.Pieces.{onto, pieces, glued, Lacks, Cut, Pieces-are-the-cut, numbered}
+use Rattle.spelling.specs.Pieces.{onto, pieces, glued, Lacks, Cut, Pieces-are-the-cut, numbered}
 
 -- there is always a first piece
 onto-some : (x : ℕ) (ps : List (List ℕ)) → 0 < length (onto x ps)

@@ -1,0 +1,5 @@
+pub mod Cutting
+pub mod Digits
+pub mod Reading
+pub mod Lawful
+pub mod Spelling
