@@ -27,4 +27,5 @@ returns c =
     let third = wrote-on second (c .put-field-at-3 .ensures) in
     let parts = wrote-on third (c .put-field .ensures) in
     let text = wrote-as (row-parts (c .args .names .now) (c .args .numbers) (omega arith)) parts in
-    (wrote-end text, wrote-whole text)
+    let end = wrote-end text in
+    (end, omega (arith, c .if-out-row-length .left, c .row-length .ensures), wrote-whole text)
