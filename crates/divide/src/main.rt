@@ -19,7 +19,13 @@ fn run(rt: &LibcRuntime) -> Result<(), AnyError> {
     let first = files::read_front(rt, "households.csv", &mut households)?;
     let second = files::read_front(rt, "links.csv", &mut links)?;
     let mut out = [0; 128];
-    let Ok(length) = report_sheets(&mut parish, &mut spare, &households[0..first], &links[0..second], &mut out) else {
+    let Ok(length) = report_sheets(
+        &mut parish,
+        &mut spare,
+        &households[0..first],
+        &links[0..second],
+        &mut out,
+    ) else {
         return Err("the report is too long".into());
     };
     rt.stdout().write_all(&out[0..length])?;

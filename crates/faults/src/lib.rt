@@ -64,24 +64,24 @@ pub enum Layer {
 pub impl From<FieldFault> for LineFault as LineFromField {
     ghost converts = { λ e r. r ≡ Field e };
 
-    fn from(fault: FieldFault) -> LineFault {
-        LineFault::Field(fault)
+    fn from(field: FieldFault) -> LineFault {
+        LineFault::Field(field)
     }
 }
 
 pub impl From<LineFault> for LoadFault as LoadFromLine {
     ghost converts = { λ e r. r ≡ Line e };
 
-    fn from(fault: LineFault) -> LoadFault {
-        LoadFault::Line(fault)
+    fn from(line: LineFault) -> LoadFault {
+        LoadFault::Line(line)
     }
 }
 
 pub impl From<ParishFault> for LoadFault as LoadFromParish {
     ghost converts = { λ e r. r ≡ Parish e };
 
-    fn from(fault: ParishFault) -> LoadFault {
-        LoadFault::Parish(fault)
+    fn from(refused: ParishFault) -> LoadFault {
+        LoadFault::Parish(refused)
     }
 }
 

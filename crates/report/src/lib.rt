@@ -14,14 +14,14 @@ mod tests {
     use super::Summary;
     use super::reports::FaultReport;
     use super::reports::SummaryReport;
-    use parish::Refusal;
-    use parish::refusals::RefusalDebug;
-    use parish::refusals::RefusalPartialEq;
     use faults::FieldFault;
     use faults::LineFault;
     use faults::LoadFault;
     use faults::Place;
     use faults::Sheet;
+    use parish::Refusal;
+    use parish::refusals::RefusalDebug;
+    use parish::refusals::RefusalPartialEq;
     use std::test::*;
 
     const WORKED: Summary = Summary {

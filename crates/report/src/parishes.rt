@@ -28,7 +28,13 @@ fn summary(parish: &Parish) -> Result<Summary, Refusal>
 }
 
 // Reads a parish from two sheets, and writes a report of it, or of what is wrong with the sheets, at the front of `out`.
-pub fn report_sheets(parish: &mut Parish, spare: &mut Parish, households: &[u8], links: &[u8], out: &mut [u8]) -> Result<usize, Refusal>
+pub fn report_sheets(
+    parish: &mut Parish,
+    spare: &mut Parish,
+    households: &[u8],
+    links: &[u8],
+    out: &mut [u8],
+) -> Result<usize, Refusal>
     ensures written { λ r. ⌜ Written (sheets-text (now (households .entry)) (now (links .entry))) (now (out .entry)) (now (out .exit)) r ⌝ }
     ensures leaves { λ _. ⌜ view (now (parish .exit)) ≡ load-leaves (loaded (now (households .entry)) (now (links .entry))) (view (now (parish .entry))) ⌝ }
     ensures scratch { λ _. ⌜ view (now (spare .exit)) ≡ no-model ⌝ }

@@ -4,8 +4,8 @@ ghost use Prim.Native.Nat.{ℕ};
 ghost use Rattle.report.specs.Reports.{Written};
 ghost use Rattle.report.specs.Texts.{summary-text, fault-text};
 use super::rows::write_row;
-use parish::Refusal;
 use faults::LoadFault;
+use parish::Refusal;
 
 pub trait Report {
     // The bytes of the report.

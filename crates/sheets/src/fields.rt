@@ -9,14 +9,14 @@ ghost use denote.Ref.{now as held};
 ghost use Rattle.std.specs.Options.{okOr};
 ghost use Rattle.spelling.specs.Fields.{read-on, number-of, pin-of};
 ghost use Rattle.spelling.specs.Pieces.{pieces};
+use super::reader::Reader;
 use faults::FieldFault;
 use faults::Place;
-use super::reader::Reader;
 use parish::Lot;
 
 // Cuts a line at its commas, and answers whether it has as many fields as `fields` has places. Where it has, they are
 // filled in.
-pub fn split<'a>(line: &'a [u8], fields: &mut [&'a [u8]]) -> bool
+pub(crate) fn split<'a>(line: &'a [u8], fields: &mut [&'a [u8]]) -> bool
     ensures counts { λ r. ⌜ r ≡ eqb (length (pieces 44 (now (line .entry)))) (length (now (fields .entry))) ⌝ }
     ensures fills { λ r. ⌜ (r ≡ true → map held (now (fields .exit)) ≡ pieces 44 (now (line .entry))) ⌝ }
 {
@@ -53,7 +53,7 @@ fn digits_after(first: u32, rest: &[u8]) -> Option<u32>
 }
 
 // A number field: the lone 0, or a first digit 1 to 9 and at most six more.
-pub fn number(field: &[u8]) -> Option<u32>
+pub(crate) fn number(field: &[u8]) -> Option<u32>
     ensures { λ r. ⌜ r ≡ number-of (now (field .entry)) ⌝ }
 {
     match field {
@@ -67,7 +67,7 @@ pub fn number(field: &[u8]) -> Option<u32>
 }
 
 // A pin field: `A`, `B`, or `-` for no pin.
-pub fn pin(field: &[u8]) -> Option<Option<Lot>>
+pub(crate) fn pin(field: &[u8]) -> Option<Option<Lot>>
     ensures { λ r. ⌜ r ≡ pin-of (now (field .entry)) ⌝ }
 {
     match field {
@@ -79,14 +79,14 @@ pub fn pin(field: &[u8]) -> Option<Option<Lot>>
 }
 
 // A number field, or its fault.
-pub fn number_field(place: Place, field: usize, text: &[u8]) -> Result<u32, FieldFault>
+pub(crate) fn number_field(place: Place, field: usize, text: &[u8]) -> Result<u32, FieldFault>
     ensures { λ r. ⌜ r ≡ okOr (number-of (now (text .entry))) (record { place = place; field = field }) ⌝ }
 {
     number(text).ok_or(FieldFault { place, field })
 }
 
 // A pin field, or its fault.
-pub fn pin_field(place: Place, field: usize, text: &[u8]) -> Result<Option<Lot>, FieldFault>
+pub(crate) fn pin_field(place: Place, field: usize, text: &[u8]) -> Result<Option<Lot>, FieldFault>
     ensures { λ r. ⌜ r ≡ okOr (pin-of (now (text .entry))) (record { place = place; field = field }) ⌝ }
 {
     pin(text).ok_or(FieldFault { place, field })

@@ -9,19 +9,19 @@ ghost use Rattle.spelling.specs.Laws.{Loaded, Faulty, Load-result};
 ghost use Rattle.spelling.specs.Lines.{lines-read, sheet-read, Read};
 ghost use Rattle.spelling.specs.Loads.{loaded};
 ghost use Rattle.spelling.specs.Pieces.{pieces};
-use spelling::Counts;
+use super::kinds::SheetKind;
+use super::kinds::households::Households;
+use super::kinds::households::HouseholdsKind;
+use super::kinds::links::Links;
+use super::kinds::links::LinksKind;
+use super::reader::Reader;
 use faults::LineFault;
 use faults::LoadFault;
 use faults::LoadFromLine;
 use faults::LoadFromParish;
 use faults::Place;
-use super::kinds::Households;
-use super::kinds::HouseholdsKind;
-use super::kinds::Links;
-use super::kinds::LinksKind;
-use super::kinds::SheetKind;
-use super::reader::Reader;
 use parish::Parish;
+use spelling::Counts;
 
 // Reads the value lines that are left, from line 2 on, onto a parish.
 fn read_lines<K: SheetKind>(reader: &mut Reader<'_>, parish: &mut Parish) -> Result<(), LoadFault>

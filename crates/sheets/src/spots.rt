@@ -2,9 +2,9 @@
 ghost use mathlib.Core.Path.{_≡_};
 ghost use Rattle.spelling.specs.Pieces.{pieces, numbered};
 ghost use Rattle.sheets.specs.Spots.{spot-of};
+use super::reader::Reader;
 use faults::LoadFault;
 use faults::Sheet;
-use super::reader::Reader;
 
 // The part of a number, counted from 1, between bytes `end`; an empty part where there is none.
 fn numbered_part(bytes: &[u8], end: u8, number: usize) -> &[u8]

@@ -1,6 +1,6 @@
 use mathlib.Core.Path.{_∙_, refl}
 use Rattle.spelling.proofs.Lawful.{link-spelt}
-use Rattle.sheets.proofs.kinds.LinksKind.record.Needs as need
+use Rattle.sheets.proofs.kinds.links.LinksKind.record.Needs as need
 
 pub returns : need.returns
 returns c =

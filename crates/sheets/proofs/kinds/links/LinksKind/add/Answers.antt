@@ -2,7 +2,7 @@ use mathlib.Core.Path.{ap, _∙_}
 use lib.ListN.{length}
 use Rattle.spelling.specs.Kinds.{blamed-in-link}
 use Rattle.spelling.proofs.Lawful.{link-refused}
-use Rattle.sheets.proofs.kinds.LinksKind.add.Needs as need
+use Rattle.sheets.proofs.kinds.links.LinksKind.add.Needs as need
 
 pub returns-in-Err : need.returns-in-Err
 returns-in-Err c =

@@ -1,6 +1,6 @@
 use mathlib.Core.Path.{_∙_, refl}
 use Rattle.spelling.proofs.Lawful.{household-spelt}
-use Rattle.sheets.proofs.kinds.HouseholdsKind.record.Needs as need
+use Rattle.sheets.proofs.kinds.households.HouseholdsKind.record.Needs as need
 
 pub returns : need.returns
 returns c =
