@@ -1,8 +1,8 @@
 // Two sheets of text read into a parish, or told exactly what is wrong with them.
-pub mod fields;
+mod fields;
 pub mod kinds;
 pub mod loading;
-pub mod reader;
+mod reader;
 pub mod spots;
 
 pub use loading::read;

@@ -7,7 +7,7 @@ ghost use Rattle.spelling.specs.Pieces.{Parted};
 
 // Bytes, and how many of them have been read.
 #[derive(Drop)]
-pub struct Reader<'a> {
+pub(crate) struct Reader<'a> {
     bytes: &'a [u8],
     place: usize,
     ghost within: { place ≤ length (held bytes) },
@@ -28,7 +28,7 @@ fn position(bytes: &[u8], end: u8) -> usize
 }
 
 impl<'a> Reader<'a> {
-    pub fn new(bytes: &'a [u8]) -> Reader<'a>
+    pub(crate) fn new(bytes: &'a [u8]) -> Reader<'a>
         ensures bytes { λ r. ⌜ now (r .bytes) ≡ now (bytes .entry) ⌝ }
         ensures place { λ r. ⌜ r .place ≡ 0 ⌝ }
     {
@@ -36,14 +36,14 @@ impl<'a> Reader<'a> {
     }
 
     // What has not been read.
-    pub fn rest(&self) -> &'a [u8]
+    pub(crate) fn rest(&self) -> &'a [u8]
         ensures { λ r. ⌜ now r ≡ drop (now (self .entry) .place) (now (now (self .entry) .bytes)) ⌝ }
     {
         &self.bytes[self.place..]
     }
 
     // The part up to the next byte `end`, which is passed over; None, with nothing read, where there is no such byte.
-    pub fn part(&mut self, end: u8) -> Option<&'a [u8]>
+    pub(crate) fn part(&mut self, end: u8) -> Option<&'a [u8]>
         ensures bytes { λ _. ⌜ now (now (self .exit) .bytes) ≡ now (now (self .entry) .bytes) ⌝ }
         ensures parted { λ r. ⌜ Parted end (drop (now (self .entry) .place) (now (now (self .entry) .bytes)))
             (drop (now (self .exit) .place) (now (now (self .entry) .bytes))) r ⌝ }

@@ -1,7 +1,8 @@
 // The kind of the links sheet.
 ghost use mathlib.Core.Path.{_≡_};
+ghost use Rattle.parish.specs.View.{view};
 ghost use Rattle.spelling.specs.Kinds.{links-kind, blamed-in-link};
-ghost use Rattle.spelling.specs.Lines.{link-by};
+ghost use Rattle.spelling.specs.Lines.{Added, link-by};
 use super::super::fields::number_field;
 use super::super::fields::split;
 use super::SheetKind;
@@ -41,15 +42,22 @@ pub impl SheetKind for Links as LinksKind {
     }
 
     fn add(parish: &mut Parish, place: Place, record: Link) -> Result<(), ParishFault> {
-        let households = parish.households().len();
-        match parish.add_link(record.from, record.to, record.strength) {
-            Ok(_) => Ok(()),
-            Err(refusal) => Err(ParishFault {
-                place,
-                field: blamed_in_link(households, record, refusal),
-                refusal,
-            }),
-        }
+        add_link(parish, place, record)
+    }
+}
+
+// Adds a link to a parish, or tells which of its fields is to blame.
+fn add_link(parish: &mut Parish, place: Place, link: Link) -> Result<(), ParishFault>
+    ensures { λ r. ⌜ Added links-kind place (view (now (parish .entry))) link (view (now (parish .exit))) r ⌝ }
+{
+    let households = parish.households().len();
+    match parish.add_link(link.from, link.to, link.strength) {
+        Ok(_) => Ok(()),
+        Err(refusal) => Err(ParishFault {
+            place,
+            field: blamed_in_link(households, link, refusal),
+            refusal,
+        }),
     }
 }
 
