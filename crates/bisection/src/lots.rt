@@ -1,0 +1,26 @@
+// Lists of lots: a byte for each household.
+ghost use mathlib.Core.Path.{_≡_};
+ghost use Rattle.parish.specs.View.{view};
+ghost use Rattle.bisection.specs.Lots.{lots-fit};
+use parish::Parish;
+
+pub const UNSET: u8 = 0;
+
+pub const IN_A: u8 = 1;
+
+pub const IN_B: u8 = 2;
+
+// Whether a list has a byte for each household, and none above 2.
+pub fn lots_fit(parish: &Parish, lots: &[u8]) -> bool
+    ensures { λ r. ⌜ r ≡ lots-fit (view (now (parish .entry))) (now (lots .entry)) ⌝ }
+{
+    if lots.len() != parish.households().len() {
+        return false;
+    }
+    for lot in lots {
+        if *lot > IN_B {
+            return false;
+        }
+    }
+    true
+}
