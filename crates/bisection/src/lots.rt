@@ -1,7 +1,7 @@
 // Lists of lots: a byte for each household.
 ghost use mathlib.Core.Path.{_≡_};
 ghost use Rattle.parish.specs.View.{view};
-ghost use Rattle.bisection.specs.Lots.{lots-fit};
+ghost use Rattle.bisection.specs.Lots.{allowed, lots-fit};
 use parish::Parish;
 
 pub const UNSET: u8 = 0;
@@ -14,9 +14,12 @@ pub const IN_B: u8 = 2;
 pub fn lots_fit(parish: &Parish, lots: &[u8]) -> bool
     ensures { λ r. ⌜ r ≡ lots-fit (view (now (parish .entry))) (now (lots .entry)) ⌝ }
 {
-    if lots.len() != parish.households().len() {
-        return false;
-    }
+    lots.len() == parish.households().len() && bytes_allowed(lots)
+}
+
+fn bytes_allowed(lots: &[u8]) -> bool
+    ensures { λ r. ⌜ r ≡ allowed (now (lots .entry)) ⌝ }
+{
     for lot in lots {
         if *lot > IN_B {
             return false;

@@ -1,7 +1,7 @@
 use mathlib.Core.Path.{_≡_}
 use lib.ListN.{drop}
 use Rattle.bisection.specs.Lots.{allowed}
-use Rattle.bisection.proofs.lots.lots_fit.Given as given
+use Rattle.bisection.proofs.lots.bytes_allowed.Given as given
 
 -- what is left decides
 abbrev pub Inv-loop-lot : given.InvT-loop-lot

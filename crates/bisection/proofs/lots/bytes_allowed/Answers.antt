@@ -8,7 +8,7 @@ use lib.ListN.{length, getD, drop}
 use Rattle.std.proofs.shelf.Lists.{at-drop-more, at-drop-all}
 use Rattle.std.proofs.shelf.Ways.{tells}
 use Rattle.bisection.specs.Lots.{allowed}
-use Rattle.bisection.proofs.lots.lots_fit.Needs as need
+use Rattle.bisection.proofs.lots.bytes_allowed.Needs as need
 
 -- what is left decides by its first byte and the rest
 allowed-more : (lots : List ℕ) (i : ℕ) → i < length lots → allowed (drop i lots) ≡ (leb (getD lots i 0) 2 && allowed (drop (i + 1) lots))

@@ -1,0 +1,46 @@
+// What a lower bound is, and what it is good for.
+ghost use mathlib.Core.List.{List};
+ghost use Prim.Native.Nat.{ℕ};
+ghost use Rattle.std.specs.Vec.{made};
+ghost use Rattle.parish.specs.Model.{Model, Sound};
+ghost use Rattle.parish.specs.View.{view};
+ghost use Rattle.bisection.specs.Lots.{Lots};
+ghost use Rattle.bisection.specs.Meanings.{Number, Charges};
+ghost use Rattle.bounds.specs.Bounds.{Bounds, BelowCosts};
+ghost use Rattle.bounds.specs.Consulting.{Consulted};
+use parish::Parish;
+use parish::Refusal;
+
+// A lower bound means one number and one charge for each link, for every parish, limit on the weight of a lot and list of
+// lots. Consulting it answers and fills in these, and does not change it.
+pub trait LowerBound {
+    ghost number: { Self → Number };
+
+    ghost charge: { Self → Charges };
+
+    law bounds: { (s : Self) (m : Model) (limit : ℕ) (lots : List ℕ) → Sound m → Lots m lots → Bounds m limit lots (number s m limit lots) (charge s m limit lots) };
+
+    // Refuses a list of a wrong length and a lot above 2, and then changes nothing.
+    fn consult(
+        &self,
+        parish: &Parish,
+        cap: u32,
+        lots: &[u8],
+        charges: &mut [u32],
+    ) -> Result<u32, Refusal>
+        ensures { λ r. ⌜ Consulted (view (now (parish .entry))) (now (lots .entry)) (now (charges .entry)) (now (charges .exit)) r (number (now (self .entry)) (view (now (parish .entry))) «cap» (now (lots .entry))) (charge (now (self .entry)) (view (now (parish .entry))) «cap» (now (lots .entry))) ⌝ };
+}
+
+// A number that no bisection undercuts which extends the list and keeps both lots within the cap.
+pub fn least_cost<B: LowerBound>(
+    bound: &B,
+    parish: &Parish,
+    cap: u32,
+    lots: &[u8],
+    charges: &mut [u32],
+) -> Result<u32, Refusal>
+    ensures answers { λ r. ⌜ Consulted (view (now (parish .entry))) (now (lots .entry)) (now (charges .entry)) (now (charges .exit)) r (number (now (bound .entry)) (view (now (parish .entry))) «cap» (now (lots .entry))) (charge (now (bound .entry)) (view (now (parish .entry))) «cap» (now (lots .entry))) ⌝ }
+    ensures below_costs { λ r. ⌜ made r (BelowCosts (view (now (parish .entry))) «cap» (now (lots .entry))) ⌝ }
+{
+    bound.consult(parish, cap, lots, charges)
+}
