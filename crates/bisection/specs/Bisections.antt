@@ -1,9 +1,10 @@
 -- The bisections of a parish: which are lawful, and their order. Assumes nothing.
+use mathlib.Core.Path.{_≡_}
 use mathlib.Core.Bool.{Bool, true, false, cond, _&&_, _||_}
 use mathlib.Core.List.{List, [], _∷_, _++_, map}
-use Prim.Native.Nat.{ℕ, zero, suc}
+use Prim.Native.Nat.{ℕ, zero, suc, _<_, _≤_}
 use lib.Dec.{eqb}
-use lib.ListN.{length}
+use lib.ListN.{length, getD}
 use Rattle.std.specs.shelf.Lists.{kept-by}
 use Rattle.parish.specs.Model.{Model}
 use Rattle.bisection.specs.Lots.{pinned, bisects, Bisects, extends, Extends}
@@ -33,3 +34,10 @@ abbrev pub before : List ℕ → List ℕ → Bool
 before [] ys = false
 before (x ∷ xs) [] = false
 before (x ∷ xs) (y ∷ ys) = cond (eqb y 0 || eqb x y) (before xs ys) (eqb x 1)
+
+-- the same in words: at some household it has A where the list has B, and it leaves what the list sets before that
+pub record ComesBefore (d lots : List ℕ) : Type 0 where
+  pub place : ℕ
+  pub has-A : getD d place 0 ≡ 1
+  pub has-B : getD lots place 0 ≡ 2
+  pub same-till : (j : ℕ) → j < place → 1 ≤ getD lots j 0 → getD d j 0 ≡ getD lots j 0

@@ -1,5 +1,5 @@
 // Laws of the definitions.
-ghost use Rattle.bisection.specs.Words.{Lots-in-words, Lawful-in-words, Least-lot-weight};
+ghost use Rattle.bisection.specs.Words.{Lots-in-words, Lawful-in-words, Before-in-words, Least-lot-weight};
 
 // A list of lots fits a parish exactly when it is as long as the parish has households and has no byte above 2.
 pub fn lots_in_words_holds() -> u8
@@ -11,6 +11,13 @@ pub fn lots_in_words_holds() -> u8
 // A list is lawful exactly when it puts every household in A or B, keeps every pin, and no lot weighs more than the limit.
 pub fn lawful_in_words_holds() -> u8
     ensures { λ _. ⌜ Lawful-in-words ⌝ }
+{
+    0
+}
+
+// A bisection comes before a list of lots exactly when it has A at the first set household where they differ.
+pub fn before_in_words_holds() -> u8
+    ensures { λ _. ⌜ Before-in-words ⌝ }
 {
     0
 }

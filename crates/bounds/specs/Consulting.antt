@@ -5,10 +5,13 @@ use Prim.Native.Nat.{ℕ}
 use lib.ListN.{length}
 use Rattle.std.specs.declared.result.Result.{Result}
 use Rattle.std.specs.declared.result.Result.the-variants.{Ok, Err}
+use Rattle.std.specs.Vec.{made}
+use Rattle.parish.specs.Edits.{answered}
 use Rattle.parish.specs.Model.{Model}
 use Rattle.parish.specs.declared.refusals.Refusal.{Refusal}
 use Rattle.parish.specs.declared.refusals.Refusal.the-variants.{WrongList}
-use Rattle.bisection.specs.Lots.{Lots}
+use Rattle.bisection.specs.Lots.{Lots, lots-table}
+use Rattle.bounds.specs.Bounds.{BelowCosts}
 
 -- both lists fit the parish: a lot or none for each household, a charge for each link
 pub record Fit (m : Model) (lots charges : List ℕ) : Type 0 where
@@ -31,3 +34,9 @@ pub record NoAnswer (m : Model) (lots before after : List ℕ) (e : Refusal) : T
 abbrev pub Consulted : Model → List ℕ → List ℕ → List ℕ → Result ℕ Refusal → ℕ → List ℕ → Type 0
 Consulted m lots before after (Ok n) number charges = Answer m lots before after n number charges
 Consulted m lots before after (Err e) number charges = NoAnswer m lots before after e
+
+-- the number alone: it is refused by the list of lots, and answered it is at most the cost of every bisection that extends
+-- the list and keeps both lots within the limit
+pub record Undercut (m : Model) (limit : ℕ) (lots : List ℕ) (number : ℕ) (r : Result ℕ Refusal) : Type 0 where
+  pub answer : r ≡ answered (lots-table m lots) number
+  pub below-costs : made r (BelowCosts m limit lots)

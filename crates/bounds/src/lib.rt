@@ -4,6 +4,7 @@ pub mod decided;
 pub mod laws;
 pub mod lists;
 pub mod lower;
+pub mod using;
 
 pub use bare::Bare;
 pub use bare::BareBound;
@@ -11,4 +12,4 @@ pub use decided::Decided;
 pub use decided::DecidedBound;
 pub use lists::lists_fit;
 pub use lower::LowerBound;
-pub use lower::least_cost;
+pub use using::least_cost;

@@ -1,12 +1,11 @@
-// What a lower bound is, and what it is good for.
+// What a lower bound is.
 ghost use mathlib.Core.List.{List};
 ghost use Prim.Native.Nat.{ℕ};
-ghost use Rattle.std.specs.Vec.{made};
 ghost use Rattle.parish.specs.Model.{Model, Sound};
 ghost use Rattle.parish.specs.View.{view};
 ghost use Rattle.bisection.specs.Lots.{Lots};
 ghost use Rattle.bisection.specs.Meanings.{Number, Charges};
-ghost use Rattle.bounds.specs.Bounds.{Bounds, BelowCosts};
+ghost use Rattle.bounds.specs.Bounds.{Bounds};
 ghost use Rattle.bounds.specs.Consulting.{Consulted};
 use parish::Parish;
 use parish::Refusal;
@@ -29,18 +28,4 @@ pub trait LowerBound {
         charges: &mut [u32],
     ) -> Result<u32, Refusal>
         ensures { λ r. ⌜ Consulted (view (now (parish .entry))) (now (lots .entry)) (now (charges .entry)) (now (charges .exit)) r (number (now (self .entry)) (view (now (parish .entry))) «cap» (now (lots .entry))) (charge (now (self .entry)) (view (now (parish .entry))) «cap» (now (lots .entry))) ⌝ };
-}
-
-// A number that no bisection undercuts which extends the list and keeps both lots within the cap.
-pub fn least_cost<B: LowerBound>(
-    bound: &B,
-    parish: &Parish,
-    cap: u32,
-    lots: &[u8],
-    charges: &mut [u32],
-) -> Result<u32, Refusal>
-    ensures answers { λ r. ⌜ Consulted (view (now (parish .entry))) (now (lots .entry)) (now (charges .entry)) (now (charges .exit)) r (number (now (bound .entry)) (view (now (parish .entry))) «cap» (now (lots .entry))) (charge (now (bound .entry)) (view (now (parish .entry))) «cap» (now (lots .entry))) ⌝ }
-    ensures below_costs { λ r. ⌜ made r (BelowCosts (view (now (parish .entry))) «cap» (now (lots .entry))) ⌝ }
-{
-    bound.consult(parish, cap, lots, charges)
 }
