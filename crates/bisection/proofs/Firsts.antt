@@ -1,13 +1,13 @@
 -- 'Comes before', by test and in words. Assumes nothing.
-use mathlib.Core.Path.{_≡_, refl, sym, ap, _∙_}
-use mathlib.Core.Bool.{Bool, true, false, cond, _||_}
+use mathlib.Core.Path.{_≡_, refl, sym, _∙_}
+use mathlib.Core.Bool.{true, false, cond, _||_}
 use mathlib.Core.List.{List, [], _∷_}
-use mathlib.Core.Logic.{_⊎_, inl, inr}
+use mathlib.Core.Logic.{inl, inr}
 use Prim.Native.Nat.{ℕ, zero, suc, _<_, _≤_}
 use native.Mathlib.Omega.{arith}
 use lib.Dec.{eqb}
 use lib.ListN.{getD}
-use Rattle.std.proofs.shelf.Tests.{cases-bool, cond-true, cond-false, eqb-true, eq-eqb, false≢true}
+use Rattle.std.proofs.shelf.Tests.{cases-bool, cond-true, cond-false, false≢true}
 use Rattle.std.proofs.shelf.Ways.{tells}
 use Rattle.bisection.specs.Bisections.{before, ComesBefore}
 use Rattle.bisection.specs.Words.{Before-in-words}

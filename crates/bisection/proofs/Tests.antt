@@ -1,6 +1,6 @@
 -- The tests on lists of lots say what their words say. Assumes nothing.
-use mathlib.Core.Path.{_≡_, refl, sym, ap, _∙_}
-use mathlib.Core.Bool.{Bool, true, false, _&&_, _||_}
+use mathlib.Core.Path.{_≡_, refl}
+use mathlib.Core.Bool.{true, _&&_, _||_}
 use mathlib.Core.List.{List, [], _∷_}
 use Prim.Native.Nat.{ℕ, zero, suc, _<_, _≤_}
 use native.Mathlib.Omega.{arith}
@@ -11,7 +11,7 @@ use Rattle.std.proofs.shelf.Tests.{and-parts, and-from, leb-true, le-leb, eqb-t
 use Rattle.std.proofs.shelf.Ways.{tells}
 use Rattle.parish.specs.Model.{Model}
 use Rattle.bisection.specs.Lots.{pinned, allowed, lots-fit, Lots, all-set, bisects, Bisects, extends, Extends}
-use Rattle.bisection.specs.Weights.{lot-weight, balanced, Balanced}
+use Rattle.bisection.specs.Weights.{balanced, Balanced}
 use Rattle.bisection.specs.Bisections.{lawful, Lawful}
 
 small-from : (xs : List ℕ) → allowed xs ≡ true → (k : ℕ) → getD xs k 0 ≤ 2

@@ -2,17 +2,15 @@
 use mathlib.Core.Path.{_≡_, refl, sym, ap, _∙_}
 use mathlib.Core.Bool.{true, false, cond}
 use mathlib.Core.List.{List, [], _∷_}
-use Prim.Native.Nat.{ℕ, zero, suc, _+_, _≤_}
+use Prim.Native.Nat.{ℕ, zero, suc, _+_}
 use native.Mathlib.Omega.{arith}
 use lib.ListN.{length, getD}
 use Rattle.std.specs.shelf.Lists.{sum}
-use Rattle.parish.specs.Limits.{strongest-held}
-use Rattle.parish.specs.Model.{Model, Sound}
 use Rattle.parish.specs.declared.items.Link.{Link}
 use Rattle.bisection.specs.Costs.{cut}
 use Rattle.bisection.specs.Meanings.{cut-charges}
-use Rattle.bounds.specs.Adding.{added, Adds, Layers-add}
-use Rattle.bounds.proofs.Sums.{sum-cons, strengths-most}
+use Rattle.bounds.specs.Adding.{added, Layers-add}
+use Rattle.bounds.proofs.Sums.{sum-cons}
 
 pub length-added : (cs es : List ℕ) → length (added cs es) ≡ length cs
 length-added [] es = refl
@@ -51,8 +49,3 @@ added-bounds m limit lots n v below extra b a =
       charged = omega (arith, sum-added below extra same, b .charged, a .charged);
       paid = λ d whole ext even. omega (arith, cut-added (m .links) below extra d same, b .paid d whole ext even, a .paid d whole ext even);
     }
-
--- the sum of a charge below and what is added fits 32 bits
-pub sum-small : (m : Model) (limit : ℕ) (lots below : List ℕ) (v : ℕ) (extra : List ℕ) → Sound m → Adds m limit lots below v extra
-    → (k : ℕ) → getD below k 0 + getD extra k 0 ≤ strongest-held
-sum-small m limit lots below v extra sound a k = omega (arith, a .left k, strengths-most m sound k)

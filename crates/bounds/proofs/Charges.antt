@@ -1,12 +1,12 @@
 -- The laws of the charges of this crate's bounds. Assumes nothing.
-use mathlib.Core.Path.{_≡_, refl, sym, _∙_}
-use mathlib.Core.Bool.{Bool, true, cond, _&&_}
+use mathlib.Core.Path.{_≡_}
+use mathlib.Core.Bool.{true, cond, _&&_}
 use mathlib.Core.List.{List, [], _∷_, map}
-use Prim.Native.Nat.{ℕ, zero, suc, _+_, _≤_}
+use Prim.Native.Nat.{ℕ, zero, suc, _≤_}
 use native.Mathlib.Omega.{arith}
-use lib.ListN.{length, getD, length-map}
+use lib.ListN.{getD, length-map}
 use lib.Dec.{ltb}
-use Rattle.std.specs.shelf.Lists.{sum, sumBy}
+use Rattle.std.specs.shelf.Lists.{sumBy}
 use Rattle.std.proofs.shelf.Sums.{sumBy-cons, sum-map}
 use Rattle.std.proofs.shelf.Tests.{ltb-true, and-parts, cond-both}
 use Rattle.parish.specs.Model.{Model}

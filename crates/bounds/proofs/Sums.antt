@@ -1,18 +1,18 @@
 -- Sums of charges, over all links and over those that a bisection cuts. Assumes nothing.
-use mathlib.Core.Path.{_≡_, refl, sym, ap, _∙_}
+use mathlib.Core.Path.{_≡_, refl, sym, _∙_}
 use mathlib.Core.Bool.{true, false, cond}
-use mathlib.Core.List.{List, [], _∷_, map}
+use mathlib.Core.List.{List, [], _∷_}
 use Prim.Native.Nat.{ℕ, zero, suc, _+_, _*_, _<_, _≤_}
 use native.Mathlib.Omega.{arith}
 use lib.ListN.{length, getD, length-map}
 use Rattle.std.specs.shelf.Lists.{sum, sumBy}
 use Rattle.std.proofs.shelf.Sums.{sumBy-cons}
-use Rattle.parish.specs.Limits.{most-links, strongest-held}
+use Rattle.parish.specs.Limits.{strongest-held}
 use Rattle.parish.specs.Model.{Model, Sound}
 use Rattle.parish.specs.declared.items.Link.{Link}
 use Rattle.bisection.specs.Costs.{cut, cut-strength, cost}
 use Rattle.bisection.specs.Meanings.{cut-charges}
-use Rattle.bounds.specs.Bounds.{strengths, Bounds, BelowCosts}
+use Rattle.bounds.specs.Bounds.{strengths, Bounds, BelowCosts, Numbers-fit}
 
 pub sum-cons : (x : ℕ) (xs : List ℕ) → sum (x ∷ xs) ≡ x + sum xs
 sum-cons x xs = sumBy-cons (λ (y : ℕ). y) x xs
@@ -23,7 +23,7 @@ cost-is [] d = refl
 cost-is (l ∷ ls) d = omega (arith, sumBy-cons (cut-strength d) l ls, cost-is ls d)
 
 -- larger charges, larger sums
-pub sum-mono : (cs es : List ℕ) → ((k : ℕ) → getD cs k 0 ≤ getD es k 0) → sum cs ≤ sum es
+sum-mono : (cs es : List ℕ) → ((k : ℕ) → getD cs k 0 ≤ getD es k 0) → sum cs ≤ sum es
 sum-mono [] es h = omega arith
 sum-mono (c ∷ cs) [] h = omega (arith, h zero, sum-cons c cs, sum-mono cs [] (λ k. h (suc k)))
 sum-mono (c ∷ cs) (e ∷ es) h = omega (arith, h zero, sum-cons c cs, sum-cons e es, sum-mono cs es (λ k. h (suc k)))
@@ -45,7 +45,7 @@ below-costs m limit lots n cs b d whole ext even =
 
 -- every charge and every number fits 32 bits with room to spare
 
-pub strengths-most : (m : Model) → Sound m → (k : ℕ) → getD (strengths (m .links)) k 0 ≤ strongest-held
+strengths-most : (m : Model) → Sound m → (k : ℕ) → getD (strengths (m .links)) k 0 ≤ strongest-held
 strengths-most m sound = most (m .links) (λ j d lt. sound .joined j d lt .4)
   where
     most : (ls : List Link) → ((i : ℕ) (d : Link) → i < length ls → getD ls i d .strength ≤ strongest-held) → (k : ℕ) → getD (strengths ls) k 0 ≤ strongest-held
@@ -57,9 +57,10 @@ sum-most : (xs : List ℕ) → ((k : ℕ) → getD xs k 0 ≤ strongest-held) �
 sum-most [] h = omega arith
 sum-most (x ∷ xs) h = omega (arith, h zero, sum-cons x xs, sum-most xs (λ k. h (suc k)))
 
-pub number-most : (m : Model) (limit : ℕ) (lots : List ℕ) (n : ℕ) (cs : List ℕ) → Sound m → Bounds m limit lots n cs
-    → n ≤ strongest-held * most-links
-number-most m limit lots n cs sound b =
+pub numbers-fit : Numbers-fit
+numbers-fit m limit lots n cs sound b =
     let all = sum-mono cs (strengths (m .links)) (b .within) in
-    let most = sum-most (strengths (m .links)) (strengths-most m sound) in
-    omega (arith, b .charged, all, most, length-map (m .links) (λ (l : Link). l .strength), sound .short)
+    let most = sum-most (strengths (m .links)) (strengths-most m sound) in (
+      omega (arith, b .charged, all, most, length-map (m .links) (λ (l : Link). l .strength), sound .short),
+      λ k. omega (arith, b .within k, strengths-most m sound k),
+    )

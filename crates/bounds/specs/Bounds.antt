@@ -1,9 +1,10 @@
 -- What a number and charges must satisfy to bound the cost of bisections from below. Assumes nothing.
 use mathlib.Core.Path.{_≡_}
 use mathlib.Core.List.{List, map}
-use Prim.Native.Nat.{ℕ, _≤_}
+use Prim.Native.Nat.{ℕ, _*_, _≤_}
 use lib.ListN.{length, getD}
 use Rattle.std.specs.shelf.Lists.{sum}
+use Rattle.parish.specs.Limits.{most-links, strongest-held}
 use Rattle.parish.specs.Model.{Model, Sound}
 use Rattle.parish.specs.declared.items.Link.{Link}
 use Rattle.bisection.specs.Lots.{Lots, Bisects, Extends}
@@ -36,3 +37,10 @@ Lower number =
 -- a number is at most the cost of every bisection that extends the list and keeps both lots within the limit
 abbrev pub BelowCosts : Model → ℕ → List ℕ → ℕ → Type 0
 BelowCosts m limit lots n = (d : List ℕ) → Bisects m d → Extends lots d → Balanced m limit d → n ≤ cost m d
+
+-- in a parish that keeps its limits, what a bound answers fits 32 bits: no charge exceeds the strongest link that a parish
+-- can hold, and no number that of as many links as it can hold
+abbrev pub Numbers-fit : Type 0
+Numbers-fit =
+    (m : Model) (limit : ℕ) (lots : List ℕ) (number : ℕ) (charges : List ℕ) → Sound m → Bounds m limit lots number charges
+    → (number ≤ strongest-held * most-links) × ((k : ℕ) → getD charges k 0 ≤ strongest-held)

@@ -27,5 +27,5 @@ pub trait LowerBound {
         lots: &[u8],
         charges: &mut [u32],
     ) -> Result<u32, Refusal>
-        ensures { λ r. ⌜ Consulted (view (now (parish .entry))) (now (lots .entry)) (now (charges .entry)) (now (charges .exit)) r (number (now (self .entry)) (view (now (parish .entry))) «cap» (now (lots .entry))) (charge (now (self .entry)) (view (now (parish .entry))) «cap» (now (lots .entry))) ⌝ };
+        ensures { λ r. ⌜ Consulted (number (now (self .entry))) (charge (now (self .entry))) (view (now (parish .entry))) «cap» (now (lots .entry)) (now (charges .entry)) (now (charges .exit)) r ⌝ };
 }

@@ -4,7 +4,6 @@ use mathlib.Core.List.{List, [], _∷_}
 use Prim.Native.Nat.{ℕ}
 use Rattle.std.specs.declared.option.Option.{Option}
 use Rattle.std.specs.declared.option.Option.the-variants.{Some, None}
-use Rattle.parish.specs.Model.{Model}
 use Rattle.parish.specs.declared.items.Household.{Household}
 use Rattle.parish.specs.declared.items.Link.{Link}
 use Rattle.bisection.specs.Meanings.{bare, decided}

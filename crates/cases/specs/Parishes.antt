@@ -1,5 +1,4 @@
 -- Parishes written out, and what a search of one comes to. Assumes nothing.
-use mathlib.Core.Path.{_≡_}
 use mathlib.Core.List.{List, [], _∷_}
 use Prim.Native.Nat.{ℕ}
 use Rattle.std.specs.declared.option.Option.{Option}
@@ -8,7 +7,6 @@ use Rattle.parish.specs.Model.{Model}
 use Rattle.parish.specs.Weights.{total-weight, cap-at}
 use Rattle.parish.specs.declared.items.Household.{Household}
 use Rattle.parish.specs.declared.items.Link.{Link}
-use Rattle.parish.specs.declared.items.Lot.{Lot}
 use Rattle.parish.specs.declared.items.Lot.the-variants.{A, B}
 use Rattle.bisection.specs.Costs.{cost}
 use Rattle.bisection.specs.Answers.{answer}

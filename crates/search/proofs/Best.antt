@@ -1,11 +1,10 @@
 -- The least cost in a list and the first that has it, as the list grows. Assumes nothing.
-use mathlib.Core.Path.{_≡_, refl, sym, ap, ap₂, _∙_}
+use mathlib.Core.Path.{_≡_, refl, sym, ap, _∙_}
 use mathlib.Core.Bool.{Bool, true, false, cond}
-use mathlib.Core.List.{List, [], _∷_, _++_, map}
-use mathlib.Core.Logic.{_⊎_, inl, inr}
+use mathlib.Core.List.{List, [], _∷_, _++_}
+use mathlib.Core.Logic.{inl, inr}
 use Prim.Native.Nat.{ℕ, min, _≤_, _<_}
 use native.Mathlib.Omega.{arith}
-use lib.Dec.{ltb}
 use Rattle.std.specs.shelf.Lists.{All, Has}
 use Rattle.std.proofs.shelf.Elements.{has-append-right, all-weaker}
 use Rattle.std.proofs.shelf.Tests.{lt-ltb, le-ltb, cases-lt, both-ways}
@@ -14,20 +13,6 @@ use Rattle.std.specs.declared.option.Option.the-variants.{Some, None}
 use Rattle.bisection.specs.Answers.{least, first-least, or-else}
 
 module _ {X : Type 0} (f : X → ℕ) where
-  pub least-append : (u : ℕ) (xs ys : List X) → least f u (xs ++ ys) ≡ least f (least f u xs) ys
-  least-append u [] ys = refl
-  least-append u (x ∷ xs) ys = least-append (min u (f x)) xs ys
-
-  pub least-stays : (u : ℕ) (ys : List X) → All (λ y. u ≤ f y) ys → least f u ys ≡ u
-  least-stays u [] h = refl
-  least-stays u (y ∷ ys) h =
-      let e : min u (f y) ≡ u = omega (arith, h .0) in
-      ap (λ v. least f v ys) e ∙ least-stays u ys (h .1)
-
-  pub least-most : (u : ℕ) (xs : List X) → least f u xs ≤ u
-  least-most u [] = omega arith
-  least-most u (x ∷ xs) = omega (arith, least-most (min u (f x)) xs)
-
   min-below : (u v : ℕ) → v < u → min u v ≡ v
   min-below u v h = omega arith
 
@@ -35,7 +20,7 @@ module _ {X : Type 0} (f : X → ℕ) where
   min-above u v h = omega arith
 
   -- no cheaper one
-  pub best-none : (u : ℕ) (ys : List X) → All (λ y. u ≤ f y) ys → first-least f u ys ≡ None
+  best-none : (u : ℕ) (ys : List X) → All (λ y. u ≤ f y) ys → first-least f u ys ≡ None
   best-none u [] h = refl
   best-none u (y ∷ ys) h =
       ap (λ b. cond b (or-else y (first-least f (f y) ys)) (first-least f u ys)) (le-ltb (f y) u (h .0)) ∙ best-none u ys (h .1)
@@ -65,9 +50,6 @@ module _ {X : Type 0} (f : X → ℕ) where
             let h′ : f y < least f u xs = rw (min-above u (f x) le) at h in
             rw (le-ltb (f x) u le) (best-takes u xs y h′)
       ]
-
-  pub least-takes : (u : ℕ) (xs : List X) (y : X) → f y < least f u xs → least f u (xs ++ y ∷ []) ≡ f y
-  least-takes u xs y h = least-append u xs (y ∷ []) ∙ min-below (least f u xs) (f y) h
 
 -- what the first of least cost is, in a list that an order R sorts
 abbrev pub Sorted : {X : Type 0} → (X → X → Bool) → List X → Type 0

@@ -1,15 +1,15 @@
 -- 'Comes before' is a strict total order on bisections. Assumes nothing.
-use mathlib.Core.Path.{_≡_, refl, sym, ap, subst, _∙_}
-use mathlib.Core.Bool.{true, false}
+use mathlib.Core.Path.{_≡_, refl, sym, ap, _∙_}
+use mathlib.Core.Bool.{true}
 use mathlib.Core.List.{List, [], _∷_, map}
 use mathlib.Core.Logic.{_⊎_, inl, inr}
-use Prim.Native.Nat.{ℕ, zero, suc, _≤_, _<_}
+use Prim.Native.Nat.{ℕ, zero, suc}
 use native.Mathlib.Omega.{arith}
 use lib.ListN.{length, length-map}
 use Rattle.std.proofs.shelf.Tests.{false≢true}
 use Rattle.parish.specs.declared.items.Lot.{Lot}
 use Rattle.parish.specs.declared.items.Lot.the-variants.{A, B}
-use Rattle.bisection.specs.Lots.{lot-byte, Bisects}
+use Rattle.bisection.specs.Lots.{lot-byte}
 use Rattle.bisection.specs.Bisections.{before}
 use Rattle.search.specs.Words.{Order-law}
 use Rattle.search.proofs.Listed.{AllSet, one-or-two, before-self}

@@ -26,11 +26,11 @@ use Rattle.bisection.specs.Meanings.{Number}
 use Rattle.bisection.proofs.Tests.{balanced-decided}
 use Rattle.bounds.specs.Bounds.{Lower}
 use Rattle.bounds.proofs.Sums.{below-costs}
-use Rattle.search.specs.Nodes.{free, lots-of, lawful-before, incumbent, leader, closed, standing}
+use Rattle.search.specs.Nodes.{free, lots-of, lawful-before, incumbent, closed, standing}
 use Rattle.search.specs.Walking.{Walked, to-beat, better, prunes, walk-from, pruned-walk}
-use Rattle.search.specs.Words.{Prunes, Pruned-search-law}
+use Rattle.search.specs.Words.{Pruned-search-law}
 use Rattle.search.proofs.Kept.{all-kept-with, map-same}
-use Rattle.search.proofs.Order.{leaves-within, on-A, on-B, on, before-down, within-full}
+use Rattle.search.proofs.Order.{leaves-within, on-A, on-B, on, before-down, within-leaf}
 use Rattle.search.proofs.Walk.{walk, walked, walk-same}
 use Rattle.search.proofs.Best.{Outcome, best-law, best-stays, best-takes}
 use Rattle.search.proofs.Leaves.{lawful-of, before-is, lawful-upto, upto-law}
@@ -48,7 +48,10 @@ on-last-B [] = refl
 on-last-B (A ∷ n) = ap on-A (on-last-B n)
 on-last-B (B ∷ n) = ap on-B (on-last-B n)
 
--- ---- the leader
+-- ---- the leader: the first lawful bisection of least cost before a node, if it costs less than the ceiling
+abbrev pub leader : Model → ℕ → ℕ → List Lot → Option (List ℕ)
+leader m limit ceiling n = first-least (cost m) ceiling (lawful-before m limit n)
+
 -- before what may be a node; where there is none, of all
 abbrev pub leader-upto : Model → ℕ → ℕ → Option (List Lot) → Option (List ℕ)
 leader-upto m limit ceiling o = first-least (cost m) ceiling (lawful-upto m limit o)
@@ -70,7 +73,7 @@ leaf-upto : (m : Model) (limit : ℕ) (n : List Lot) → length n ≡ free (pins
 leaf-upto m limit n e light =
     let P : ℕ → Type 0 = λ k. leaves-within k n ≡ n ∷ [] in
     upto-law m limit n (omega arith)
-    ∙ ap (λ r. lawful-before m limit n ++ lawful-of m limit r) (subst P e (within-full n))
+    ∙ ap (λ r. lawful-before m limit n ++ lawful-of m limit r) (subst P e (within-leaf n))
     ∙ ap (λ r. lawful-before m limit n ++ map (lots-of m) r) (cond-true (balanced m limit (lots-of m n)) (n ∷ []) [] light)
 
 -- one that costs less leads from then on, another changes nothing
@@ -104,18 +107,18 @@ module _ (number : Number) (m : Model) (limit ceiling : ℕ) (sound : Sound m) (
       let W : List Lot → Bool = λ l. balanced m limit (lots-of m l) in
       all-map (λ d. incumbent m limit ceiling n ≤ cost m d) (lots-of m) (kept-by W (leaves-within (free (pins m)) n))
       (all-kept-with W P (leaves-within (free (pins m)) n)
-      (all-within (λ l. W l ≡ true → P l) n (free (pins m)) (λ r full w. by r full w (or-cases _ _ e))))
+      (all-within (λ l. W l ≡ true → P l) n (free (pins m)) (λ r leaf w. by r leaf w (or-cases _ _ e))))
     where
       by : (r : List Lot) → length (n ++ r) ≡ free (pins m) → balanced m limit (lots-of m (n ++ r)) ≡ true
           → ((not (balanced m limit (lots-of m n)) ≡ true) ⊎ ((ltb (length n) (free (pins m)) && leb (incumbent m limit ceiling n) (number m limit (lots-of m n))) ≡ true))
           → incumbent m limit ceiling n ≤ cost m (lots-of m (n ++ r))
-      by r full w (inl over) =
+      by r leaf w (inl over) =
           let light = balanced-decided m limit (lots-of m n) .1 (light-above m limit n r (balanced-decided m limit (lots-of m (n ++ r)) .0 w)) in
           absurd (both-ways _ (not-true _ over) light)
-      by r full w (inr reached) =
+      by r leaf w (inr reached) =
           let q = law m limit (lots-of m n) sound (lots-fit m n) in
           let p = below-costs m limit (lots-of m n) (number m limit (lots-of m n)) (q .0) (q .1) (lots-of m (n ++ r))
-          (leaf-bisects m (n ++ r) full) (lots-extend m n r) (balanced-decided m limit (lots-of m (n ++ r)) .0 w) in
+          (leaf-bisects m (n ++ r) leaf) (lots-extend m n r) (balanced-decided m limit (lots-of m (n ++ r)) .0 w) in
           let q′ = and-parts (ltb (length n) (free (pins m))) (leb (incumbent m limit ceiling n) (number m limit (lots-of m n))) reached .1 in
           omega (arith, leb-true (incumbent m limit ceiling n) (number m limit (lots-of m n)) q′, p)
 
@@ -138,7 +141,7 @@ module _ (number : Number) (m : Model) (limit ceiling : ℕ) (sound : Sound m) (
 
   at-leaf : (n : List Lot) → length n ≡ free (pins m)
       → better number m limit ceiling (lots-of m n) (leader m limit ceiling n) ≡ leader-upto m limit ceiling (on n)
-  at-leaf n full = by (balanced m limit (lots-of m n)) refl (cases-lt (cost m (lots-of m n)) (incumbent m limit ceiling n))
+  at-leaf n leaf = by (balanced m limit (lots-of m n)) refl (cases-lt (cost m (lots-of m n)) (incumbent m limit ceiling n))
     where
       worth : ltb (cost m (lots-of m n)) (to-beat number m limit ceiling (leader m limit ceiling n)) ≡ ltb (cost m (lots-of m n)) (incumbent m limit ceiling n)
       worth = ap (ltb (cost m (lots-of m n))) (leader-worth number m limit ceiling n)
@@ -149,8 +152,8 @@ module _ (number : Number) (m : Model) (limit ceiling : ℕ) (sound : Sound m) (
       by false e c =
           ap (λ b. chosen n b (ltb (cost m (lots-of m n)) (to-beat number m limit ceiling (leader m limit ceiling n)))) e
           ∙ sym (leader-closed number m limit ceiling sound law n (omega arith) (or-left _ _ (not-from-false _ e)))
-      by true e (inl lt) = ap₂ (chosen n) e (worth ∙ lt-ltb _ _ lt) ∙ sym (leaf-better m limit ceiling n full e lt)
-      by true e (inr le) = ap₂ (chosen n) e (worth ∙ le-ltb _ _ le) ∙ sym (leaf-same m limit ceiling n full e le)
+      by true e (inl lt) = ap₂ (chosen n) e (worth ∙ lt-ltb _ _ lt) ∙ sym (leaf-better m limit ceiling n leaf e lt)
+      by true e (inr le) = ap₂ (chosen n) e (worth ∙ le-ltb _ _ le) ∙ sym (leaf-same m limit ceiling n leaf e le)
 
   -- the walk prunes a node where it is closed
   prunes-closed : (n : List Lot) → length n < free (pins m)
@@ -199,9 +202,9 @@ module _ (number : Number) (m : Model) (limit ceiling : ℕ) (sound : Sound m) (
 
   walks : (k : ℕ) (n : List Lot) → length n + k ≡ free (pins m)
       → Right number m limit ceiling k n (walk-from number m limit ceiling k n (leader m limit ceiling n))
-  walks zero n full =
+  walks zero n leaf =
       record { takes = ap (λ e. e ∷ []) (sym (append-nil n)); ends = at-leaf n (omega arith) }
-  walks (suc k) n full =
+  walks (suc k) n leaf =
       let short : length n < free (pins m) = omega arith in
       let longer : (x : Lot) → length (n ++ x ∷ []) + k ≡ free (pins m) = λ x. omega (arith, length-append n (x ∷ [])) in
       let a : Walked = walk-from number m limit ceiling k (n ++ A ∷ []) (leader m limit ceiling n) in

@@ -1,16 +1,15 @@
 -- Standing, by test and in words. Assumes nothing.
-use mathlib.Core.Path.{_≡_, refl, sym, ap, subst, _∙_}
-use mathlib.Core.Bool.{Bool, true, false, not, _&&_, _||_}
-use mathlib.Core.List.{List, [], _∷_, _++_, map}
-use Prim.Native.Nat.{ℕ, zero, suc, _+_, _≤_, _<_, min}
+use mathlib.Core.Path.{_≡_, refl, sym, ap, subst}
+use mathlib.Core.Bool.{Bool, true, false, not, _&&_}
+use mathlib.Core.List.{List, [], _∷_, _++_}
+use Prim.Native.Nat.{ℕ, zero, suc, _+_, _<_, min}
 use native.Mathlib.Omega.{arith}
 use lib.Dec.{leb, ltb}
 use lib.ListN.{length, length-append}
 use Rattle.std.specs.shelf.Lists.{All, kept-by}
-use Rattle.std.specs.Orderings.{Decides}
 use Rattle.std.proofs.shelf.Elements.{all-map, all-weaker}
 use Rattle.std.proofs.shelf.Tests.{and-parts, and-from, not-true, not-false, not-from-false, not-from-true, or-parts, or-from, and-right, and-cases, lt-ltb, leb-false, lt-leb, both-ways}
-use mathlib.Core.Logic.{_⊎_, inl, inr}
+use mathlib.Core.Logic.{inl, inr}
 use Rattle.parish.specs.Model.{Model}
 use Rattle.parish.specs.declared.items.Lot.{Lot}
 use Rattle.bisection.specs.Lots.{pins}
@@ -21,7 +20,7 @@ use Rattle.bisection.specs.Answers.{least}
 use Rattle.bisection.specs.Meanings.{Number}
 use Rattle.bisection.proofs.Tests.{balanced-decided}
 use Rattle.search.specs.Nodes.{free, lots-of, nodes, above, none, closed, stands, incumbent, lawful-before}
-use Rattle.search.specs.Words.{Unclosed, Stands, Standing-law, Empty-node-law}
+use Rattle.search.specs.Words.{Unclosed, Standing-law, Empty-node-law}
 use Rattle.search.proofs.Kept.{all-of-kept, all-kept-with, map-all}
 use Rattle.search.proofs.Listed.{all-lawful, lawful-has}
 

@@ -15,7 +15,7 @@ use Rattle.bisection.specs.Lots.{lot-byte, pins}
 use Rattle.bisection.specs.Weights.{balanced}
 use Rattle.bisection.specs.Costs.{cost}
 use Rattle.bisection.specs.Bisections.{lawful-bisections, before}
-use Rattle.bisection.specs.Answers.{least, first-least}
+use Rattle.bisection.specs.Answers.{least}
 use Rattle.bisection.specs.Meanings.{Number}
 
 -- how many households have no pin
@@ -56,10 +56,6 @@ lawful-before m limit n = kept-by (λ d. before d (lots-of m n)) (lawful-bisecti
 -- the incumbent before a node: the least of the ceiling and the costs of all lawful bisections before it
 abbrev pub incumbent : Model → ℕ → ℕ → List Lot → ℕ
 incumbent m limit ceiling n = least (cost m) ceiling (lawful-before m limit n)
-
--- the first of them that costs so little, if one costs less than the ceiling
-abbrev pub leader : Model → ℕ → ℕ → List Lot → Option (List ℕ)
-leader m limit ceiling n = first-least (cost m) ceiling (lawful-before m limit n)
 
 module _ (number : Number) (m : Model) (limit ceiling : ℕ) where
   -- a node is closed where a lot is too heavy, or it is no leaf and its lower bound is not below the incumbent before it

@@ -17,7 +17,7 @@ use Rattle.bisection.specs.Answers.{answer, Answers, NoneBelow}
 use Rattle.bisection.specs.Meanings.{Number}
 use Rattle.bounds.specs.Bounds.{Lower}
 use Rattle.search.specs.Nodes.{free, lots-of, stands, standing}
-use Rattle.search.specs.Walking.{Walked, pruned-walk}
+use Rattle.search.specs.Walking.{pruned-walk}
 
 -- ---- the answer
 -- it is the first lawful bisection of least cost below the ceiling, and there is none exactly where there is no such

@@ -1,6 +1,6 @@
 use mathlib.Core.Path.{_≡_, refl}
 use mathlib.Core.Bool.{cond, not}
-use mathlib.Core.List.{List, [], _∷_}
+use mathlib.Core.List.{[], _∷_}
 use Prim.Native.Nat.{ℕ, zero, suc, _+_, _≤_}
 use native.Mathlib.Omega.{arith}
 use lib.Dec.{eqb}
@@ -9,7 +9,7 @@ use Rattle.std.proofs.shelf.Ways.{tells}
 use Rattle.bisection.specs.Lots.{Extends}
 use Rattle.bisection.specs.Bisections.{Lawful}
 use Rattle.bisection.proofs.Tests.{lawful-decided, extends-decided}
-use Rattle.bounds.specs.Bounds.{strengths, Bounds}
+use Rattle.bounds.specs.Bounds.{strengths}
 use Rattle.bounds.proofs.Charges.{decided-bounds}
 use Rattle.bounds.proofs.Sums.{below-costs}
 use Rattle.cases.specs.Parishes.{worked}

@@ -1,5 +1,5 @@
 use mathlib.Core.Path.{_≡_, sym, ap, _∙_}
-use mathlib.Core.Bool.{true, false, cond, not}
+use mathlib.Core.Bool.{cond, not}
 use mathlib.Core.List.{List}
 use mathlib.Core.Logic.{inl, inr}
 use Prim.Native.Nat.{ℕ}
@@ -18,6 +18,7 @@ use Rattle.parish.proofs.Viewed.{parish-sound}
 use Rattle.bisection.specs.Lots.{Lots, lots-fit, lots-table}
 use Rattle.bisection.proofs.Steps.{fit-answers}
 use Rattle.bisection.proofs.Tests.{lots-decided}
+use Rattle.bisection.specs.Meanings.{Number, Charges}
 use Rattle.bounds.specs.Bounds.{Bounds}
 use Rattle.bounds.specs.Consulting.{Consulted, Undercut}
 use Rattle.bounds.proofs.Sums.{below-costs}
@@ -31,23 +32,25 @@ unfit-refuses m lots e v unfit why =
       | inr no′ ↦ ap Err why ∙ sym (ap (λ b. answer-by (cond (not b) (Some WrongList) None) v) no′)
     ]
 
-undercut : (m : Model) (limit : ℕ) (lots : List ℕ) (number : ℕ) (charges : List ℕ) → (Lots m lots → Bounds m limit lots number charges)
-    → (before after : List ℕ) → length before ≡ length (m .links)
-    → (r : Result ℕ Refusal) → Consulted m lots before after r number charges → Undercut m limit lots number r
-undercut m limit lots number charges law before after long (Ok n) a =
+undercut : (number : Number) (charge : Charges) (m : Model) (limit : ℕ) (lots : List ℕ)
+    → (Lots m lots → Bounds m limit lots (number m limit lots) (charge m limit lots)) → (before after : List ℕ) → length before ≡ length (m .links)
+    → (r : Result ℕ Refusal) → Consulted number charge m limit lots before after r → Undercut number m limit lots r
+undercut number charge m limit lots law before after long (Ok n) a =
     record {
-      answer = fit-answers m lots n number (lots-decided m lots .1 (a .fit .lots-fit)) (a .says);
-      below-costs = λ d whole ext even. omega (arith, a .says, below-costs m limit lots number charges (law (a .fit .lots-fit)) d whole ext even);
+      answer = fit-answers m lots n (number m limit lots) (lots-decided m lots .1 (a .fit .lots-fit)) (a .says);
+      below-costs = λ d whole ext even.
+          omega (arith, a .says, below-costs m limit lots (number m limit lots) (charge m limit lots) (law (a .fit .lots-fit)) d whole ext even);
     }
-undercut m limit lots number charges law before after long (Err e) a =
+undercut number charge m limit lots law before after long (Err e) a =
     record {
-      answer = unfit-refuses m lots e number (λ fit. a .unfit (record { lots-fit = fit; charges-fit = long })) (a .why);
+      answer = unfit-refuses m lots e (number m limit lots) (λ fit. a .unfit (record { lots-fit = fit; charges-fit = long })) (a .why);
       below-costs = tt;
     }
 
 pub returns : need.returns
 returns g c =
+    let b = c .args .bound .now in
     let m = view (c .args .parish .now) in
-    undercut m (c .args .cap) (c .args .lots .now) _ _
-    (g .B·LowerBound·met .bounds (c .args .bound .now) m (c .args .cap) (c .args .lots .now) (parish-sound (c .args .parish .now)))
-    _ _ (c .pre) (c .consult .result) (c .consult .ensures)
+    undercut (g .B·LowerBound .number b) (g .B·LowerBound .charge b) m (c .args .cap) (c .args .lots .now)
+    (g .B·LowerBound·met .bounds b m (c .args .cap) (c .args .lots .now) (parish-sound (c .args .parish .now)))
+    (c .args .charges .now) _ (c .pre) (c .consult .result) (c .consult .ensures)
