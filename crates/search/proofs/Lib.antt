@@ -8,4 +8,5 @@ pub mod Extending
 pub mod Unclosing
 pub mod Ordering
 pub mod Answering
+pub mod Leading
 pub mod Pruning
