@@ -1,8 +1,8 @@
 -- A list that is filled place by place. Assumes nothing.
-use mathlib.Core.Path.{_≡_, refl}
-use mathlib.Core.List.{List, [], _∷_, map}
+use mathlib.Core.Path.{_≡_}
+use mathlib.Core.List.{List}
 use mathlib.Core.Logic.{_≢_}
-use Prim.Native.Nat.{ℕ, zero, suc, _+_, _<_, _≤_}
+use Prim.Native.Nat.{ℕ, _+_, _<_, _≤_}
 use native.Mathlib.Omega.{arith}
 use borrow.Author.Count.{below-more}
 use lib.ListN.{length, getD, set}
@@ -18,8 +18,3 @@ fill-step xs F i v lt below here =
 -- every place is written
 pub filled : (xs ys : List ℕ) (n : ℕ) → length xs ≡ length ys → length xs ≤ n → ((k : ℕ) → k < n → getD xs k 0 ≡ getD ys k 0) → xs ≡ ys
 filled xs ys n same le all = ext-getD 0 xs ys same (λ k h. all k (omega arith))
-
-pub getD-zeros : {X : Type 0} (ls : List X) (k : ℕ) → _≡_ {A = ℕ} (getD (map (λ _. 0) ls) k 0) 0
-getD-zeros [] k = refl
-getD-zeros (l ∷ ls) zero = refl
-getD-zeros (l ∷ ls) (suc k) = getD-zeros ls k

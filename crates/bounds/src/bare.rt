@@ -24,9 +24,7 @@ pub impl LowerBound for Bare as BareBound {
         if !lists_fit(parish, lots, charges) {
             return Err(Refusal::WrongList);
         }
-        for charge in charges.iter_mut() {
-            *charge = 0;
-        }
+        charges.fill(0);
         Ok(0)
     }
 }

@@ -1,24 +1,20 @@
-use borrow.Author.Needs.{needs}
-use mathlib.Core.Path.{refl, sym, _∙_}
-use mathlib.Core.List.{List, map}
+use mathlib.Core.Path.{_≡_, refl, ap, _∙_}
+use mathlib.Core.List.{List, [], _∷_, map}
 use Prim.Native.Nat.{ℕ}
-use native.Mathlib.Omega.{arith}
-use lib.ListN.{length-map}
+use lib.ListN.{length, replicate}
 use Rattle.parish.specs.View.{view}
 use Rattle.parish.specs.declared.items.Link.{Link}
-use Rattle.bounds.proofs.Filling.{fill-step, filled, getD-zeros}
 use Rattle.bounds.proofs.bare.BareBound.consult.Needs as need
 
-pub loop-charge-again : need.loop-charge-again
-loop-charge-again c = fill-step (c .loop-charge .charges) (λ _. 0) (c .loop-charge .charge-index) 0 (search needs) (c .loop-charge .inv) refl
+zeros : (ls : List Link) → replicate {A = ℕ} (length ls) 0 ≡ map (λ _. 0) ls
+zeros [] = refl
+zeros (l ∷ ls) = ap (λ r. 0 ∷ r) (zeros ls)
 
 pub returns : need.returns
 returns c =
-    let ls = view (c .args .parish .now) .links in
     let fit = c .if-not-lists-fit .ensures tt in
-    let zeros : List ℕ = map (λ (_ : Link). 0) ls in
     record {
       fit = fit;
       says = refl;
-      fills = filled (c .loop-charge .charges) zeros (c .loop-charge .charge-index) (omega (arith, fit .charges-fit, length-map {B = ℕ} ls (λ (_ : Link). 0))) (omega arith) (λ k h. c .loop-charge .inv k h ∙ sym (getD-zeros ls k));
+      fills = c .fill .ensures .after (λ y e. e) ∙ ap (λ n. replicate {A = ℕ} n 0) (fit .charges-fit) ∙ zeros (view (c .args .parish .now) .links);
     }
