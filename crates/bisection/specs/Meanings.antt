@@ -18,6 +18,7 @@ Number = Model → ℕ → List ℕ → ℕ
 abbrev pub Charges : Type 0
 Charges = Model → ℕ → List ℕ → List ℕ
 
+-- the two together are what a lower bound means
 pub record Meaning : Type 0 where
   pub number : Number
   pub charges : Charges

@@ -38,6 +38,6 @@ Consulted number charge m limit lots before after (Err e) = NoAnswer m lots befo
 
 -- the number alone: it is refused by the list of lots, and answered it is at most the cost of every bisection that extends
 -- the list and keeps both lots within the limit
-pub record Undercut (number : Number) (m : Model) (limit : ℕ) (lots : List ℕ) (r : Result ℕ Refusal) : Type 0 where
+pub record LeastCost (number : Number) (m : Model) (limit : ℕ) (lots : List ℕ) (r : Result ℕ Refusal) : Type 0 where
   pub answer : r ≡ answered (lots-table m lots) (number m limit lots)
   pub below-costs : made r (BelowCosts m limit lots)

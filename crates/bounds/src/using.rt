@@ -2,7 +2,7 @@
 ghost use mathlib.Core.Path.{_≡_};
 ghost use lib.ListN.{length};
 ghost use Rattle.parish.specs.View.{view};
-ghost use Rattle.bounds.specs.Consulting.{Undercut};
+ghost use Rattle.bounds.specs.Consulting.{LeastCost};
 use super::lower::LowerBound;
 use parish::MOST_LINKS;
 use parish::Parish;
@@ -15,7 +15,7 @@ pub fn least_cost<B: LowerBound>(
     cap: u32,
     lots: &[u8],
 ) -> Result<u32, Refusal>
-    ensures { λ r. ⌜ Undercut (number (now (bound .entry))) (view (now (parish .entry))) «cap» (now (lots .entry)) r ⌝ }
+    ensures { λ r. ⌜ LeastCost (number (now (bound .entry))) (view (now (parish .entry))) «cap» (now (lots .entry)) r ⌝ }
 {
     let mut scratch = [0; MOST_LINKS];
     let charges = &mut scratch[0..parish.links().len()];
@@ -30,7 +30,7 @@ fn least_cost_by<B: LowerBound>(
     charges: &mut [u32],
 ) -> Result<u32, Refusal>
     requires { ⌜ length (now charges) ≡ length (view (now parish) .links) ⌝ }
-    ensures { λ r. ⌜ Undercut (number (now (bound .entry))) (view (now (parish .entry))) «cap» (now (lots .entry)) r ⌝ }
+    ensures { λ r. ⌜ LeastCost (number (now (bound .entry))) (view (now (parish .entry))) «cap» (now (lots .entry)) r ⌝ }
 {
     bound.consult(parish, cap, lots, charges)
 }

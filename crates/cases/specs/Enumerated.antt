@@ -15,6 +15,7 @@ pub record Gives (hs : List Household) (ls : List Link) (tolerance ceiling : ℕ
   pub bare-steps : steps-over bare (record { households = hs; links = ls }) tolerance ceiling ≡ over-bare
   pub decided-steps : steps-over decided (record { households = hs; links = ls }) tolerance ceiling ≡ over-decided
 
+-- the parishes, by the names that the program gives them
 pub record Enumerated-cases : Type 0 where
   pub triangle : Gives (free 1 ∷ free 1 ∷ free 1 ∷ []) (link 0 1 5 ∷ link 1 2 1 ∷ link 0 2 2 ∷ []) 0 100 (Some (1 ∷ 1 ∷ 2 ∷ [], 3)) 15 11
   pub path : Gives (free 2 ∷ free 2 ∷ free 2 ∷ free 2 ∷ []) (link 0 1 1 ∷ link 1 2 3 ∷ link 2 3 1 ∷ []) 0 100 (Some (1 ∷ 2 ∷ 2 ∷ 1 ∷ [], 2)) 27 21

@@ -14,9 +14,11 @@ use Rattle.cases.specs.Parishes.{worked}
 abbrev pub ends-set : List ℕ
 ends-set = 1 ∷ 0 ∷ 0 ∷ 2 ∷ []
 
+-- a bisection that keeps them
 abbrev pub halves : List ℕ
 halves = 1 ∷ 1 ∷ 2 ∷ 2 ∷ []
 
+-- each of the two is a lower bound, and their sum is none
 pub record Full-strengths-do-not-add : Type 0 where
   -- two links must be cut to part 0 from 3: along each way round the ring one
   pub parting : Bounds worked 5 ends-set 2 (1 ∷ 1 ∷ 1 ∷ 1 ∷ [])

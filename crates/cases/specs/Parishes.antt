@@ -13,16 +13,19 @@ use Rattle.bisection.specs.Answers.{answer}
 use Rattle.bisection.specs.Meanings.{Meaning}
 use Rattle.search.specs.Nodes.{steps}
 
--- a household of weight w: free, or pinned
+-- a free household of weight w
 abbrev pub free : ℕ → Household
 free w = record { weight = w; pin = None }
 
+-- one that is pinned to A
 abbrev pub in-A : ℕ → Household
 in-A w = record { weight = w; pin = Some A }
 
+-- one that is pinned to B
 abbrev pub in-B : ℕ → Household
 in-B w = record { weight = w; pin = Some B }
 
+-- a link between two households, with its strength
 abbrev pub link : ℕ → ℕ → ℕ → Link
 link from to strength = record { from = from; to = to; strength = strength }
 

@@ -9,10 +9,11 @@ use Rattle.parish.specs.Weights.{total-weight, cap-at}
 use Rattle.bisection.specs.Meanings.{Meaning, bare, decided}
 use Rattle.cases.specs.Parishes.{free, link, worked, priced-answer, steps-over}
 
--- two households of weight 1 and a link between them; two of weights 10 and 1 and no link
+-- two households of weight 1 and a link between them
 abbrev pub pair : Model
 pair = record { households = free 1 ∷ free 1 ∷ []; links = link 0 1 1 ∷ [] }
 
+-- two households of weights 10 and 1, and no link
 abbrev pub uneven : Model
 uneven = record { households = free 10 ∷ free 1 ∷ []; links = [] }
 
@@ -21,6 +22,7 @@ pub record Ends (M : Meaning) (m : Model) (ceiling : ℕ) (found : Option (List 
   pub answers : priced-answer m 0 ceiling ≡ found
   pub in-steps : steps-over M m 0 ceiling ≡ n
 
+-- the cases
 pub record Worked-cases : Type 0 where
   pub weighs-10 : total-weight (worked .households) ≡ 10
   pub cap-of-10-at-0 : cap-at 10 0 ≡ 5

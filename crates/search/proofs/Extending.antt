@@ -1,4 +1,4 @@
--- The lots of a node, and of the nodes within it. Assumes nothing.
+-- The lots of a node, and of the nodes below it. Assumes nothing.
 use mathlib.Core.Path.{_≡_, refl, ap, _∙_}
 use mathlib.Core.Bool.{cond}
 use mathlib.Core.List.{List, [], _∷_, _++_, map}
@@ -19,9 +19,9 @@ use Rattle.parish.specs.declared.items.Lot.the-variants.{A, B}
 use Rattle.bisection.specs.Lots.{lot-byte, pins, Lots, Bisects, Extends}
 use Rattle.bisection.specs.Weights.{lot-weight, Balanced}
 use Rattle.search.specs.Nodes.{free, dealt, lots-of}
-use Rattle.search.proofs.Order.{leaves, leaves-within}
+use Rattle.search.proofs.Order.{leaves, leaves-below}
 
--- what holds of every leaf that goes on from a node holds of the leaves within it
+-- what holds of every leaf that goes on from a node holds of the leaves below it
 all-leaves : (P : List Lot → Type 0) (k : ℕ) → ((l : List Lot) → length l ≡ k → P l) → All P (leaves k)
 all-leaves P zero h = (h [] refl, tt)
 all-leaves P (suc k) h =
@@ -29,11 +29,11 @@ all-leaves P (suc k) h =
     (all-map P (λ l. A ∷ l) (leaves k) (all-leaves (λ l. P (A ∷ l)) k (λ l e. h (A ∷ l) (ap suc e))))
     (all-map P (λ l. B ∷ l) (leaves k) (all-leaves (λ l. P (B ∷ l)) k (λ l e. h (B ∷ l) (ap suc e))))
 
-pub all-within : (P : List Lot → Type 0) (n : List Lot) (k : ℕ) → ((r : List Lot) → length (n ++ r) ≡ k → P (n ++ r)) → All P (leaves-within k n)
-all-within P [] k h = all-leaves P k h
-all-within P (x ∷ n) zero h = tt
-all-within P (x ∷ n) (suc k) h =
-    all-map P (λ l. x ∷ l) (leaves-within k n) (all-within (λ l. P (x ∷ l)) n k (λ r e. h r (ap suc e)))
+pub all-below : (P : List Lot → Type 0) (n : List Lot) (k : ℕ) → ((r : List Lot) → length (n ++ r) ≡ k → P (n ++ r)) → All P (leaves-below k n)
+all-below P [] k h = all-leaves P k h
+all-below P (x ∷ n) zero h = tt
+all-below P (x ∷ n) (suc k) h =
+    all-map P (λ l. x ∷ l) (leaves-below k n) (all-below (λ l. P (x ∷ l)) n k (λ r e. h r (ap suc e)))
 
 byte-range : (l : Lot) → (1 ≤ lot-byte l) × (lot-byte l ≤ 2)
 byte-range A = (omega arith, omega arith)
@@ -97,7 +97,7 @@ weight-grows lot (x ∷ hs) (None ∷ ps) [] (y ∷ r) h =
     omega (arith, z, weight-grows lot hs ps [] r h)
 weight-grows lot (x ∷ hs) (None ∷ ps) (y ∷ n) r h = omega (arith, weight-grows lot hs ps n r h)
 
--- so a node is light where one within it is
+-- so a node is light where one below it is
 pub light-above : (m : Model) (limit : ℕ) (n r : List Lot) → Balanced m limit (lots-of m (n ++ r)) → Balanced m limit (lots-of m n)
 light-above m limit n r b =
     record {

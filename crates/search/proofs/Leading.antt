@@ -27,10 +27,10 @@ use Rattle.bounds.proofs.Sums.{below-costs}
 use Rattle.search.specs.Nodes.{free, lots-of, lawful-before, incumbent, closed}
 use Rattle.search.specs.Walking.{to-beat}
 use Rattle.search.proofs.Kept.{all-kept-with}
-use Rattle.search.proofs.Order.{leaves-within, on, before-down, within-leaf}
+use Rattle.search.proofs.Order.{leaves-below, on, before-down, below-leaf}
 use Rattle.search.proofs.Best.{Outcome, best-law, best-stays, best-takes}
 use Rattle.search.proofs.Leaves.{lawful-of, before-is, lawful-upto, upto-law}
-use Rattle.search.proofs.Extending.{all-within, lots-fit, leaf-bisects, lots-extend, light-above}
+use Rattle.search.proofs.Extending.{all-below, lots-fit, leaf-bisects, lots-extend, light-above}
 use Rattle.search.proofs.Listed.{before-self, sorted-kept, sorted-lawful}
 
 -- the first lawful bisection of least cost before a node, if it costs less than the ceiling
@@ -52,13 +52,13 @@ leader-worth number m limit ceiling n =
     by None h = sym (h .costs)
     by (Some d) h = h .costs
 
--- a leaf within the limit: what lies within it is its own bisection
+-- a light leaf: what lies below it is its own bisection
 leaf-upto : (m : Model) (limit : ℕ) (n : List Lot) → length n ≡ free (pins m) → balanced m limit (lots-of m n) ≡ true
     → lawful-upto m limit (on n) ≡ lawful-before m limit n ++ lots-of m n ∷ []
 leaf-upto m limit n e light =
-    let P : ℕ → Type 0 = λ k. leaves-within k n ≡ n ∷ [] in
+    let P : ℕ → Type 0 = λ k. leaves-below k n ≡ n ∷ [] in
     upto-law m limit n (omega arith)
-    ∙ ap (λ r. lawful-before m limit n ++ lawful-of m limit r) (subst P e (within-leaf n))
+    ∙ ap (λ r. lawful-before m limit n ++ lawful-of m limit r) (subst P e (below-leaf n))
     ∙ ap (λ r. lawful-before m limit n ++ map (lots-of m) r) (cond-true (balanced m limit (lots-of m n)) (n ∷ []) [] light)
 
 -- one that costs less leads from then on, another changes nothing
@@ -73,7 +73,7 @@ leaf-same m limit ceiling n e light le =
     ap (first-least (cost m) ceiling) (leaf-upto m limit n e light)
     ∙ best-stays (cost m) ceiling (lawful-before m limit n) (lots-of m n ∷ []) (le, tt)
 
--- nothing more comes before the first node within a node
+-- nothing more comes before the first node below a node
 pub leader-down : (m : Model) (limit ceiling : ℕ) (n : List Lot) → length n < free (pins m)
     → leader m limit ceiling (n ++ A ∷ []) ≡ leader m limit ceiling n
 leader-down m limit ceiling n short =
@@ -84,15 +84,15 @@ pub no-leader-first : (m : Model) (limit ceiling : ℕ) → leader m limit ceili
 no-leader-first m limit ceiling = ap (first-least (cost m) ceiling) (before-is m limit [])
 
 module _ (number : Number) (m : Model) (limit ceiling : ℕ) (sound : Sound m) (law : Lower number) where
-  -- within a closed node nothing is cheaper than the incumbent
-  none-within : (n : List Lot) → closed number m limit ceiling n ≡ true
-      → All (λ d. incumbent m limit ceiling n ≤ cost m d) (lawful-of m limit (leaves-within (free (pins m)) n))
-  none-within n e =
+  -- below a closed node nothing is cheaper than the incumbent
+  none-below : (n : List Lot) → closed number m limit ceiling n ≡ true
+      → All (λ d. incumbent m limit ceiling n ≤ cost m d) (lawful-of m limit (leaves-below (free (pins m)) n))
+  none-below n e =
       let P : List Lot → Type 0 = λ l. incumbent m limit ceiling n ≤ cost m (lots-of m l) in
       let W : List Lot → Bool = λ l. balanced m limit (lots-of m l) in
-      all-map (λ d. incumbent m limit ceiling n ≤ cost m d) (lots-of m) (kept-by W (leaves-within (free (pins m)) n))
-      (all-kept-with W P (leaves-within (free (pins m)) n)
-      (all-within (λ l. W l ≡ true → P l) n (free (pins m)) (λ r leaf w. by r leaf w (or-cases _ _ e))))
+      all-map (λ d. incumbent m limit ceiling n ≤ cost m d) (lots-of m) (kept-by W (leaves-below (free (pins m)) n))
+      (all-kept-with W P (leaves-below (free (pins m)) n)
+      (all-below (λ l. W l ≡ true → P l) n (free (pins m)) (λ r leaf w. by r leaf w (or-cases _ _ e))))
     where
       by : (r : List Lot) → length (n ++ r) ≡ free (pins m) → balanced m limit (lots-of m (n ++ r)) ≡ true
           → ((not (balanced m limit (lots-of m n)) ≡ true) ⊎ ((ltb (length n) (free (pins m)) && leb (incumbent m limit ceiling n) (number m limit (lots-of m n))) ≡ true))
@@ -111,4 +111,4 @@ module _ (number : Number) (m : Model) (limit ceiling : ℕ) (sound : Sound m) (
       → leader-upto m limit ceiling (on n) ≡ leader m limit ceiling n
   leader-closed n h e =
       ap (first-least (cost m) ceiling) (upto-law m limit n h)
-      ∙ best-stays (cost m) ceiling (lawful-before m limit n) (lawful-of m limit (leaves-within (free (pins m)) n)) (none-within n e)
+      ∙ best-stays (cost m) ceiling (lawful-before m limit n) (lawful-of m limit (leaves-below (free (pins m)) n)) (none-below n e)

@@ -20,7 +20,7 @@ use Rattle.bisection.specs.Bisections.{bisections, lawful-bisections, before}
 use Rattle.search.specs.Nodes.{free, dealt, lots-of, lawful-before}
 use Rattle.search.proofs.Kept.{kept-by-map, kept-by-none, kept-by-both, kept-by-swap}
 use Rattle.search.proofs.Listed.{lawful-is-kept}
-use Rattle.search.proofs.Order.{leaves, leaves-before, leaves-within, leaves-upto, on, upto-on}
+use Rattle.search.proofs.Order.{leaves, leaves-before, leaves-below, leaves-upto, on, upto-on}
 
 kept-all : {X : Type 0} (xs : List X) → kept-by (λ x. true) xs ≡ xs
 kept-all [] = refl
@@ -109,11 +109,11 @@ of-append m limit xs ys =
     ap (map (lots-of m)) (kept-by-append (λ l. balanced m limit (lots-of m l)) xs ys)
     ∙ map-append (lots-of m) (kept-by (λ l. balanced m limit (lots-of m l)) xs) (kept-by (λ l. balanced m limit (lots-of m l)) ys)
 
--- before the next node: what was before, and what lies within
+-- before the next node: what was before, and what lies below the node
 pub upto-law : (m : Model) (limit : ℕ) (n : List Lot) → length n ≤ free (pins m)
-    → lawful-upto m limit (on n) ≡ lawful-before m limit n ++ lawful-of m limit (leaves-within (free (pins m)) n)
+    → lawful-upto m limit (on n) ≡ lawful-before m limit n ++ lawful-of m limit (leaves-below (free (pins m)) n)
 upto-law m limit n h =
     upto-is m limit (on n)
     ∙ ap (lawful-of m limit) (upto-on n (free (pins m)) h)
-    ∙ of-append m limit (leaves-before (free (pins m)) n) (leaves-within (free (pins m)) n)
-    ∙ ap (λ r. r ++ lawful-of m limit (leaves-within (free (pins m)) n)) (sym (before-is m limit n))
+    ∙ of-append m limit (leaves-before (free (pins m)) n) (leaves-below (free (pins m)) n)
+    ∙ ap (λ r. r ++ lawful-of m limit (leaves-below (free (pins m)) n)) (sym (before-is m limit n))

@@ -29,7 +29,7 @@ use Rattle.search.proofs.Order.{on, on-last-A, on-last-B}
 use Rattle.search.proofs.Walk.{walk, walked, walk-same}
 use Rattle.search.proofs.Leading.{leader, leader-upto, leader-worth, leaf-better, leaf-same, leader-down, no-leader-first, leader-closed}
 
--- from a node: what stands within it, and the leader behind it
+-- a walk from a node takes what stands at and below it, and ends with the leader before the next node
 pub record Right (number : Number) (m : Model) (limit ceiling k : ℕ) (n : List Lot) (w : Walked) : Type 0 where
   pub takes : w .taken ≡ map (λ e. n ++ e) (walk (λ e. closed number m limit ceiling (n ++ e)) k)
   pub ends : w .best ≡ leader-upto m limit ceiling (on n)
@@ -64,7 +64,7 @@ module _ (number : Number) (m : Model) (limit ceiling : ℕ) (sound : Sound m) (
       ap (λ v. over || leb v bound) (leader-worth number m limit ceiling n)
       ∙ sym (ap (λ b. over || (b && leb (incumbent m limit ceiling n) bound)) (lt-ltb _ _ short))
 
-  -- the nodes that a walk has within an open node: those that go on from it with x
+  -- the nodes that a walk takes below an open node: those that go on from it with x
   abbrev part : ℕ → List Lot → Lot → List (List Lot)
   part k n x = map (λ e. x ∷ e) (walk (λ e. closed number m limit ceiling (n ++ x ∷ e)) k)
 
@@ -86,7 +86,7 @@ module _ (number : Number) (m : Model) (limit ceiling : ℕ) (sound : Sound m) (
         ends = sym (leader-closed number m limit ceiling sound law n (omega arith) e);
       }
 
-  -- and of another it and what lies within it
+  -- and of another it and what it takes below
   walk-open : (k : ℕ) (n : List Lot) → closed number m limit ceiling n ≡ false → (a b : Walked)
       → Right number m limit ceiling k (n ++ A ∷ []) a → Right number m limit ceiling k (n ++ B ∷ []) b
       → Right number m limit ceiling (suc k) n (record { taken = n ∷ (a .taken ++ b .taken); best = b .best })

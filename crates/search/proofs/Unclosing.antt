@@ -43,7 +43,7 @@ all-none : {X : Type 0} (p : X → Bool) (xs : List X) → All (λ x. p x ≡ fa
 all-none p [] h = refl
 all-none p (x ∷ xs) h = and-from (not (p x)) (none p xs) (not-from-false (p x) (h .0)) (all-none p xs (h .1))
 
--- the shorter nodes are the proper beginnings
+-- the nodes above a node are its proper beginnings
 above-has : (P : List Lot → Type 0) (e : List Lot) (x : Lot) (r : List Lot) → All P (above (e ++ x ∷ r)) → P e
 above-has P [] x r h = h .0
 above-has P (y ∷ e) x r h = above-has (λ n. P (y ∷ n)) e x r (map-all P (λ n. y ∷ n) (above (e ++ x ∷ r)) (h .1))
@@ -89,7 +89,7 @@ in-words number m limit ceiling n fits = (
   (λ w. all-none (closed number m limit ceiling) (above n) (all-above (λ e. closed number m limit ceiling e ≡ false) n (λ e x r q. shut number m limit ceiling e (w e x r q)))),
 )
 
--- the empty node lies within no other, and comes first
+-- the empty node lies below no other, and comes first
 pub empty-first : Empty-node-law
 empty-first number m limit ceiling = (refl, by (free (pins m)))
   where

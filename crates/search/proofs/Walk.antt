@@ -13,7 +13,7 @@ use Rattle.search.proofs.Kept.{kept-by-map, kept-by-same, kept-by-none, none-m
 abbrev pub stands-by : (List Lot → Bool) → List Lot → Bool
 stands-by C n = none C (above n)
 
--- the walk: a node, and unless it is closed those within it
+-- the walk: a node, and unless it is closed those below it
 abbrev pub walk : (List Lot → Bool) → ℕ → List (List Lot)
 walk C zero = [] ∷ []
 walk C (suc k) =

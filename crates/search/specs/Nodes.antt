@@ -1,5 +1,5 @@
--- The nodes of a search over a parish, and those that stand. A node deals lots to the free households, the lowest first.
--- Assumes nothing.
+-- The nodes of a search over a parish, and those that stand. A node deals lots to the free households, the lowest first. It
+-- lies below each shorter node that it goes on from. Assumes nothing.
 use mathlib.Core.Bool.{Bool, true, not, _&&_, _||_}
 use mathlib.Core.List.{List, [], _∷_, _++_, map}
 use Prim.Native.Nat.{ℕ, zero, suc}
@@ -31,15 +31,16 @@ dealt (Some lot ∷ ps) n = lot-byte lot ∷ dealt ps n
 dealt (None ∷ ps) [] = 0 ∷ dealt ps []
 dealt (None ∷ ps) (x ∷ n) = lot-byte x ∷ dealt ps n
 
+-- the same of a parish
 abbrev pub lots-of : Model → List Lot → List ℕ
 lots-of m n = dealt (pins m) n
 
--- every node over k free households, a shorter one before those within which it lies, A before B
+-- every node over k free households, a node before those below it, A before B
 abbrev pub nodes : ℕ → List (List Lot)
 nodes zero = [] ∷ []
 nodes (suc k) = [] ∷ (map (λ n. A ∷ n) (nodes k) ++ map (λ n. B ∷ n) (nodes k))
 
--- the shorter nodes within a node, the shortest first
+-- the nodes above a node, those that it goes on from, the shortest first
 abbrev pub above : List Lot → List (List Lot)
 above [] = []
 above (x ∷ n) = [] ∷ map (λ e. x ∷ e) (above n)
@@ -64,7 +65,7 @@ module _ (number : Number) (m : Model) (limit ceiling : ℕ) where
       not (balanced m limit (lots-of m n))
       || (ltb (length n) (free (pins m)) && leb (incumbent m limit ceiling n) (number m limit (lots-of m n)))
 
-  -- a node stands when no shorter node within it is closed
+  -- a node stands when no node above it is closed
   abbrev pub stands : List Lot → Bool
   stands n = none closed (above n)
 

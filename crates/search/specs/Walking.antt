@@ -29,11 +29,11 @@ module _ (number : Number) (m : Model) (limit ceiling : ℕ) where
   abbrev pub better : List ℕ → Option (List ℕ) → Option (List ℕ)
   better d best = cond (balanced m limit d && ltb (cost m d) (to-beat best)) (Some d) best
 
-  -- nothing within a node is looked at where a lot is too heavy, or its lower bound is not below what is to be undercut
+  -- nothing below a node is looked at where a lot is too heavy, or its lower bound is not below what is to be undercut
   abbrev pub prunes : List Lot → Option (List ℕ) → Bool
   prunes n best = not (balanced m limit (lots-of m n)) || leb (to-beat best) (number m limit (lots-of m n))
 
-  -- from a node with k households left to deal: the node, and unless it is pruned what lies within it, A before B
+  -- from a node with k households left to deal: the node, and unless it is pruned what lies below it, A before B
   abbrev pub walk-from : ℕ → List Lot → Option (List ℕ) → Walked
   walk-from zero n best = record { taken = n ∷ []; best = better (lots-of m n) best }
   walk-from (suc k) n best =

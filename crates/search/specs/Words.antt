@@ -27,6 +27,7 @@ pub record Answered (m : Model) (limit ceiling : ℕ) : Type 0 where
   pub none-below : answer m limit ceiling ≡ None → NoneBelow m limit ceiling
   pub none-since : NoneBelow m limit ceiling → answer m limit ceiling ≡ None
 
+-- in every parish, under every limit and ceiling
 abbrev pub Answer-law : Type 0
 Answer-law = (m : Model) (limit ceiling : ℕ) → Answered m limit ceiling
 
@@ -42,6 +43,7 @@ pub record StrictOrder (m : Model) : Type 0 where
   pub chains : (d e f : List ℕ) → Keeps m d → Keeps m e → Keeps m f → before d e ≡ true → before e f ≡ true → before d f ≡ true
   pub one-first : (d e : List ℕ) → Keeps m d → Keeps m e → (before d e ≡ true) ⊎ ((d ≡ e) ⊎ (before e d ≡ true))
 
+-- in every parish
 abbrev pub Order-law : Type 0
 Order-law = (m : Model) → StrictOrder m
 
@@ -52,10 +54,11 @@ pub record Unclosed (number : Number) (m : Model) (limit ceiling : ℕ) (n : Lis
   pub below-ceiling : number m limit (lots-of m n) < ceiling
   pub below-costs : (d : List ℕ) → Lawful m limit d → before d (lots-of m n) ≡ true → number m limit (lots-of m n) < cost m d
 
--- every shorter node within it does so
+-- every node above it does so: each that it goes on from
 abbrev pub Stands : Number → Model → ℕ → ℕ → List Lot → Type 0
 Stands number m limit ceiling n = (e : List Lot) (x : Lot) (r : List Lot) → e ++ x ∷ r ≡ n → Unclosed number m limit ceiling e
 
+-- standing by test agrees with standing in words
 abbrev pub Standing-law : Type 0
 Standing-law =
     (number : Number) (m : Model) (limit ceiling : ℕ) (n : List Lot) → length n ≤ free (pins m)
@@ -73,8 +76,10 @@ pub record Prunes (number : Number) (m : Model) (limit ceiling : ℕ) : Type 0 w
   pub takes : pruned-walk number m limit ceiling .taken ≡ standing number m limit ceiling
   pub ends : pruned-walk number m limit ceiling .best ≡ answer m limit ceiling
 
+-- in every parish that keeps its limits
 abbrev pub Prunes-rightly : Number → Type 0
 Prunes-rightly number = (m : Model) (limit ceiling : ℕ) → Sound m → Prunes number m limit ceiling
 
+-- over every number that keeps the law of lower bounds
 abbrev pub Pruned-search-law : Type 0
 Pruned-search-law = (number : Number) → Lower number → Prunes-rightly number

@@ -17,8 +17,8 @@ pub fn order_law_holds() -> u8
     0
 }
 
-// A node stands exactly when every shorter node within it keeps the limit, and has a lower bound below the ceiling and
-// below the cost of every lawful bisection before it.
+// A node stands exactly when every node above it keeps the limit, and has a lower bound below the ceiling and below the
+// cost of every lawful bisection before it.
 pub fn standing_law_holds() -> u8
     ensures { λ _. ⌜ Standing-law ⌝ }
 {

@@ -20,7 +20,7 @@ use Rattle.bisection.proofs.Steps.{fit-answers}
 use Rattle.bisection.proofs.Tests.{lots-decided}
 use Rattle.bisection.specs.Meanings.{Number, Charges}
 use Rattle.bounds.specs.Bounds.{Bounds}
-use Rattle.bounds.specs.Consulting.{Consulted, Undercut}
+use Rattle.bounds.specs.Consulting.{Consulted, LeastCost}
 use Rattle.bounds.proofs.Sums.{below-costs}
 use Rattle.bounds.proofs.using.least_cost_by.Needs as need
 
@@ -32,16 +32,16 @@ unfit-refuses m lots e v unfit why =
       | inr no′ ↦ ap Err why ∙ sym (ap (λ b. answer-by (cond (not b) (Some WrongList) None) v) no′)
     ]
 
-undercut : (number : Number) (charge : Charges) (m : Model) (limit : ℕ) (lots : List ℕ)
+least-by : (number : Number) (charge : Charges) (m : Model) (limit : ℕ) (lots : List ℕ)
     → (Lots m lots → Bounds m limit lots (number m limit lots) (charge m limit lots)) → (before after : List ℕ) → length before ≡ length (m .links)
-    → (r : Result ℕ Refusal) → Consulted number charge m limit lots before after r → Undercut number m limit lots r
-undercut number charge m limit lots law before after long (Ok n) a =
+    → (r : Result ℕ Refusal) → Consulted number charge m limit lots before after r → LeastCost number m limit lots r
+least-by number charge m limit lots law before after long (Ok n) a =
     record {
       answer = fit-answers m lots n (number m limit lots) (lots-decided m lots .1 (a .fit .lots-fit)) (a .says);
       below-costs = λ d whole ext even.
           omega (arith, a .says, below-costs m limit lots (number m limit lots) (charge m limit lots) (law (a .fit .lots-fit)) d whole ext even);
     }
-undercut number charge m limit lots law before after long (Err e) a =
+least-by number charge m limit lots law before after long (Err e) a =
     record {
       answer = unfit-refuses m lots e (number m limit lots) (λ fit. a .unfit (record { lots-fit = fit; charges-fit = long })) (a .why);
       below-costs = tt;
@@ -51,6 +51,6 @@ pub returns : need.returns
 returns g c =
     let b = c .args .bound .now in
     let m = view (c .args .parish .now) in
-    undercut (g .B·LowerBound .number b) (g .B·LowerBound .charge b) m (c .args .cap) (c .args .lots .now)
+    least-by (g .B·LowerBound .number b) (g .B·LowerBound .charge b) m (c .args .cap) (c .args .lots .now)
     (g .B·LowerBound·met .bounds b m (c .args .cap) (c .args .lots .now) (parish-sound (c .args .parish .now)))
     (c .args .charges .now) _ (c .pre) (c .consult .result) (c .consult .ensures)
