@@ -1,59 +1,58 @@
 -- The tests on lists of lots say what their words say. Assumes nothing.
 use mathlib.Core.Path.{_≡_, refl}
-use mathlib.Core.Bool.{true, _&&_, _||_}
+use mathlib.Core.Bool.{Bool, true, _&&_, _||_}
 use mathlib.Core.List.{List, [], _∷_}
+use mathlib.Core.Logic.{⊎-elim}
 use Prim.Native.Nat.{ℕ, zero, suc, _<_, _≤_}
 use native.Mathlib.Omega.{arith}
-use lib.Dec.{eqb, leb}
+use lib.Dec.{eqb, leb, lit≤}
 use lib.ListN.{length, getD}
 use Rattle.std.specs.Orderings.{Decides}
-use Rattle.std.proofs.shelf.Tests.{and-parts, and-from, leb-true, le-leb, eqb-true, eq-eqb}
-use Rattle.std.proofs.shelf.Ways.{tells}
+use Rattle.std.proofs.shelf.Elements.{all-getD, all-from-getD}
+use Rattle.std.proofs.shelf.Lists.{getD-past}
+use Rattle.std.proofs.shelf.Tests.{and-parts, and-from, leb-true, le-leb, eqb-true, eq-eqb, cases-lt}
+use Rattle.std.proofs.shelf.Ways.{tells, decides-like, decides-by-and}
 use Rattle.parish.specs.Model.{Model}
 use Rattle.bisection.specs.Lots.{pinned, allowed, lots-fit, Lots, all-set, bisects, Bisects, extends, Extends}
 use Rattle.bisection.specs.Weights.{balanced, Balanced}
 use Rattle.bisection.specs.Bisections.{lawful, Lawful}
 
-small-from : (xs : List ℕ) → allowed xs ≡ true → (k : ℕ) → getD xs k 0 ≤ 2
-small-from [] e k = omega arith
-small-from (x ∷ xs) e zero = leb-true x 2 (and-parts (leb x 2) (allowed xs) e .0)
-small-from (x ∷ xs) e (suc k) = small-from xs (and-parts (leb x 2) (allowed xs) e .1) k
+-- a test of each byte of a list, by its places
+each-place : (p : ℕ → Bool) (P : ℕ → Type 0) (f : List ℕ → Bool) → ((x : ℕ) → Decides (p x) (P x)) → f [] ≡ true
+    → ((x : ℕ) (xs : List ℕ) → f (x ∷ xs) ≡ (p x && f xs)) → (xs : List ℕ)
+    → Decides (f xs) ((k : ℕ) → k < length xs → P (getD xs k 0))
+each-place p P f each none more xs =
+    decides-like (f xs) (λ all k lt. all-getD P xs k 0 lt all) (λ h. all-from-getD P xs 0 h) (decides-by-and p P f each none more xs)
 
-allowed-from : (xs : List ℕ) → ((k : ℕ) → getD xs k 0 ≤ 2) → allowed xs ≡ true
-allowed-from [] h = refl
-allowed-from (x ∷ xs) h = and-from (leb x 2) (allowed xs) (le-leb x 2 (h zero)) (allowed-from xs (λ k. h (suc k)))
+allowed-decided : (xs : List ℕ) → Decides (allowed xs) ((k : ℕ) → getD xs k 0 ≤ 2)
+allowed-decided xs =
+    decides-like (allowed xs) (λ h k. ⊎-elim (h k) (λ (past : length xs ≤ k). rw (getD-past xs k 0 past) (lit≤ tt)) (cases-lt k (length xs))) (λ h k _. h k)
+    (each-place (λ x. leb x 2) (λ x. x ≤ 2) allowed (λ x. (leb-true x 2, le-leb x 2)) refl (λ _ _. refl) xs)
 
 pub lots-decided : (m : Model) (lots : List ℕ) → Decides (lots-fit m lots) (Lots m lots)
 lots-decided m lots = (
   (λ e.
       let p = and-parts (eqb (length lots) (length (m .households))) (allowed lots) e in
-      record { long = eqb-true _ _ (p .0); small = small-from lots (p .1) }),
-  (λ h. and-from _ _ (eq-eqb _ _ (h .long)) (allowed-from lots (h .small))),
+      record { long = eqb-true _ _ (p .0); small = allowed-decided lots .0 (p .1) }),
+  (λ h. and-from _ _ (eq-eqb _ _ (h .long)) (allowed-decided lots .1 (h .small))),
 )
 
 -- one of the two lots
-in-lot : (x : ℕ) → (eqb x 1 || eqb x 2) ≡ true → (1 ≤ x) × (x ≤ 2)
-in-lot x e = (grind (arith, tells), grind (arith, tells))
+lot-decided : (x : ℕ) → Decides (eqb x 1 || eqb x 2) ((1 ≤ x) × (x ≤ 2))
+lot-decided x = ((λ e. in-lot x e), (λ h. grind (arith, tells)))
+  where
+    in-lot : (y : ℕ) → (eqb y 1 || eqb y 2) ≡ true → (1 ≤ y) × (y ≤ 2)
+    in-lot y e = (grind (arith, tells), grind (arith, tells))
 
-lot-in : (x : ℕ) → (1 ≤ x) × (x ≤ 2) → (eqb x 1 || eqb x 2) ≡ true
-lot-in x h = grind (arith, tells)
-
-set-from : (d : List ℕ) → all-set d ≡ true → (k : ℕ) → k < length d → (1 ≤ getD d k 0) × (getD d k 0 ≤ 2)
-set-from [] e k lt = absurd (omega arith)
-set-from (x ∷ d) e zero lt = in-lot x (and-parts (eqb x 1 || eqb x 2) (all-set d) e .0)
-set-from (x ∷ d) e (suc k) lt = set-from d (and-parts (eqb x 1 || eqb x 2) (all-set d) e .1) k (omega arith)
-
-all-set-from : (d : List ℕ) → ((k : ℕ) → k < length d → (1 ≤ getD d k 0) × (getD d k 0 ≤ 2)) → all-set d ≡ true
-all-set-from [] h = refl
-all-set-from (x ∷ d) h =
-    and-from (eqb x 1 || eqb x 2) (all-set d) (lot-in x (h zero (omega arith))) (all-set-from d (λ k lt. h (suc k) (omega arith)))
+set-decided : (d : List ℕ) → Decides (all-set d) ((k : ℕ) → k < length d → (1 ≤ getD d k 0) × (getD d k 0 ≤ 2))
+set-decided d = each-place (λ x. eqb x 1 || eqb x 2) (λ x. (1 ≤ x) × (x ≤ 2)) all-set lot-decided refl (λ _ _. refl) d
 
 pub bisects-decided : (m : Model) (d : List ℕ) → Decides (bisects m d) (Bisects m d)
 bisects-decided m d = (
   (λ e.
       let p = and-parts (eqb (length d) (length (m .households))) (all-set d) e in
-      record { long = eqb-true _ _ (p .0); set-each = set-from d (p .1) }),
-  (λ h. and-from _ _ (eq-eqb _ _ (h .long)) (all-set-from d (h .set-each))),
+      record { long = eqb-true _ _ (p .0); set-each = set-decided d .0 (p .1) }),
+  (λ h. and-from _ _ (eq-eqb _ _ (h .long)) (set-decided d .1 (h .set-each))),
 )
 
 -- a byte that is unset, or kept

@@ -40,24 +40,20 @@ chain (B ∷ a) (B ∷ b) (B ∷ c) p q = chain a b c p q
 abbrev OneFirst : List ℕ → List ℕ → Type 0
 OneFirst d e = (before d e ≡ true) ⊎ ((d ≡ e) ⊎ (before e d ≡ true))
 
-under-A : (d e : List ℕ) → OneFirst d e → OneFirst (1 ∷ d) (1 ∷ e)
-under-A d e (inl p) = inl p
-under-A d e (inr (inl p)) = inr (inl (ap (λ r. 1 ∷ r) p))
-under-A d e (inr (inr p)) = inr (inr p)
-
-under-B : (d e : List ℕ) → OneFirst d e → OneFirst (2 ∷ d) (2 ∷ e)
-under-B d e (inl p) = inl p
-under-B d e (inr (inl p)) = inr (inl (ap (λ r. 2 ∷ r) p))
-under-B d e (inr (inr p)) = inr (inr p)
+-- one household more that both have in one lot
+under : (x : ℕ) (d e : List ℕ) → before (x ∷ d) (x ∷ e) ≡ before d e → before (x ∷ e) (x ∷ d) ≡ before e d → OneFirst d e → OneFirst (x ∷ d) (x ∷ e)
+under x d e p q (inl h) = inl (p ∙ h)
+under x d e p q (inr (inl h)) = inr (inl (ap (λ r. x ∷ r) h))
+under x d e p q (inr (inr h)) = inr (inr (q ∙ h))
 
 compared : (a b : List Lot) → length a ≡ length b → OneFirst (map lot-byte a) (map lot-byte b)
 compared [] [] e = inr (inl refl)
 compared [] (y ∷ b) e = absurd (omega arith)
 compared (x ∷ a) [] e = absurd (omega arith)
-compared (A ∷ a) (A ∷ b) e = under-A (map lot-byte a) (map lot-byte b) (compared a b (omega arith))
+compared (A ∷ a) (A ∷ b) e = under 1 (map lot-byte a) (map lot-byte b) refl refl (compared a b (omega arith))
 compared (A ∷ a) (B ∷ b) e = inl refl
 compared (B ∷ a) (A ∷ b) e = inr (inr refl)
-compared (B ∷ a) (B ∷ b) e = under-B (map lot-byte a) (map lot-byte b) (compared a b (omega arith))
+compared (B ∷ a) (B ∷ b) e = under 2 (map lot-byte a) (map lot-byte b) refl refl (compared a b (omega arith))
 
 pub one-first : (d e : List ℕ) → length d ≡ length e → AllSet d → AllSet e → OneFirst d e
 one-first d e same r s =
