@@ -1,0 +1,4 @@
+pub mod Tests
+pub mod Steps
+pub mod Halves
+pub mod Firsts

@@ -1,0 +1,7 @@
+pub mod Lots
+pub mod Weights
+pub mod Costs
+pub mod Bisections
+pub mod Answers
+pub mod Meanings
+pub mod Words

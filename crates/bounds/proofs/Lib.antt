@@ -1,0 +1,4 @@
+pub mod Sums
+pub mod Charges
+pub mod Adding
+pub mod Filling

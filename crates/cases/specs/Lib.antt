@@ -1,0 +1,4 @@
+pub mod Parishes
+pub mod Worked
+pub mod Enumerated
+pub mod Full

@@ -1,0 +1,12 @@
+pub mod Kept
+pub mod Order
+pub mod Walk
+pub mod Best
+pub mod Listed
+pub mod Leaves
+pub mod Extending
+pub mod Unclosing
+pub mod Ordering
+pub mod Answering
+pub mod Leading
+pub mod Pruning
