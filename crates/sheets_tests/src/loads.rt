@@ -1,6 +1,7 @@
 // Loads that are not refused.
 use super::cases::HOUSEHOLDS;
 use super::cases::LINKS;
+use super::cases::check_summary;
 use super::cases::check_worked;
 use super::cases::run_cases;
 use faults::LoadFaultDebug;
@@ -8,9 +9,6 @@ use parish::Parish;
 use parish::Refusal;
 use parish::refusals::RefusalDebug;
 use parish::refusals::RefusalPartialEq;
-use report::Report;
-use report::Summary;
-use report::reports::SummaryReport;
 use std::test::*;
 
 #[test]
@@ -21,19 +19,9 @@ fn worked(rt: LibcRuntime) -> Result<(), Fail> {
     let counts = sheets::read(&mut parish, &mut spare, HOUSEHOLDS, LINKS)?;
     check_worked(heap, &parish)?;
     check(spare.households().is_empty() && spare.links().is_empty())?;
-    let summary = Summary {
-        households: counts.households,
-        links: counts.links,
-        weight: parish.total_weight(),
-        cap: parish.weight_cap(0)?,
-    };
-    let text = b"households,links,weight,cap\n4,4,10,5\n";
-    let mut out = [0; 40];
-    check_eq(summary.report(&mut out), Ok(text.len()))?;
-    check(out.starts_with(text))
+    check_summary(&parish, counts, b"households,links,weight,cap\n4,4,10,5\n")
 }
 
-// The worked parish weighs 10.
 #[test]
 fn caps(rt: LibcRuntime) -> Result<(), Fail> {
     let heap = rt.alloc();
@@ -41,6 +29,11 @@ fn caps(rt: LibcRuntime) -> Result<(), Fail> {
     let mut spare = Parish::new(heap)?;
     check_eq(parish.weight_cap(1_000), Ok(0))?;
     sheets::read(&mut parish, &mut spare, HOUSEHOLDS, LINKS)?;
+    check_caps(&parish)
+}
+
+// The worked parish weighs 10.
+fn check_caps(parish: &Parish) -> Result<(), Fail> {
     check_eq(parish.total_weight(), 10)?;
     check_eq(parish.weight_cap(0), Ok(5))?;
     check_eq(parish.weight_cap(50), Ok(5))?;

@@ -1,10 +1,12 @@
 // The largest parish, and one record more.
 use super::cases::bytes_of;
+use super::cases::check_summary;
 use super::cases::run_cases;
 use faults::LoadFaultDebug;
 use parish::Parish;
 use parish::refusals::RefusalDebug;
 use parish::refusals::RefusalPartialEq;
+use std::alloc::Global;
 use std::test::*;
 
 #[test]
@@ -12,24 +14,24 @@ fn largest(rt: LibcRuntime) -> Result<(), Fail> {
     let heap = rt.alloc();
     let households = bytes_of(heap, "weight,lot$%9999,-$", b"")?;
     let links = bytes_of(heap, "from,to,strength$&127,126,1$", b"")?;
+    load_largest(heap, households.as_slice(), links.as_slice())
+}
+
+fn load_largest(heap: Global, households: &[u8], links: &[u8]) -> Result<(), Fail> {
     let mut parish = Parish::new(heap)?;
     let mut spare = Parish::new(heap)?;
-    let counts = sheets::read(
-        &mut parish,
-        &mut spare,
-        households.as_slice(),
-        links.as_slice(),
-    )?;
-    check_eq(counts.households, 128)?;
-    check_eq(counts.links, 1024)?;
-    check_eq(parish.total_weight(), 1_279_999)?;
-    check_eq(parish.weight_cap(0), Ok(640_000))?;
+    let counts = sheets::read(&mut parish, &mut spare, households, links)?;
+    let text = b"households,links,weight,cap\n128,1024,1279999,640000\n";
+    check_summary(&parish, counts, text)?;
+    check_largest(&parish)
+}
+
+fn check_largest(parish: &Parish) -> Result<(), Fail> {
     check_eq(parish.weight_cap(1_000), Ok(1_280_000))?;
     let household = parish.households().last().ok_or("no household")?;
     check_eq(household.weight, 9_999)?;
     let link = parish.links().last().ok_or("no link")?;
-    check_eq(link.from, 127)?;
-    check_eq(link.to, 126)
+    check(link.from == 127 && link.to == 126)
 }
 
 const ROOMS: &str = "\

@@ -11,6 +11,7 @@ use faults::Place;
 use faults::Sheet;
 use parish::Refusal;
 use std::alloc::Global;
+use std::str::Split;
 use std::test::*;
 
 // A kind of fault, its spot, and its numbers.
@@ -48,53 +49,79 @@ parish||7,2,0,0
 parish|A|1,1,2,2
 ";
 
-fn refusal_of(number: &str) -> Option<Refusal> {
+#[derive(Clone, Copy)]
+struct Numbers {
+    refusal: Refusal,
+    place: Place,
+    field: usize,
+}
+
+fn number_in(numbers: &mut Split<'_, char>) -> Option<usize> {
+    numbers.next()?.parse::<usize>().ok()
+}
+
+fn numbers_of(told: &str) -> Option<Numbers> {
+    let mut numbers = told.split(',');
+    let refusal = refusal_of(number_in(&mut numbers)?)?;
+    let sheet = match number_in(&mut numbers)? {
+        1 => Sheet::Households,
+        _ => Sheet::Links,
+    };
+    let line = number_in(&mut numbers)?;
+    let field = number_in(&mut numbers)?;
+    Some(Numbers {
+        refusal,
+        place: Place { sheet, line },
+        field,
+    })
+}
+
+fn refusal_of(number: usize) -> Option<Refusal> {
     match number {
-        "1" => Some(Refusal::SearchOpen),
-        "5" => Some(Refusal::OutsideLimits),
-        "6" => Some(Refusal::NoHousehold),
-        "7" => Some(Refusal::SelfLink),
-        "8" => Some(Refusal::ParishFull),
-        "9" => Some(Refusal::WrongNames),
-        "10" => Some(Refusal::WrongCount),
-        "11" => Some(Refusal::WrongField),
+        1 => Some(Refusal::SearchOpen),
+        5 => Some(Refusal::OutsideLimits),
+        6 => Some(Refusal::NoHousehold),
+        7 => Some(Refusal::SelfLink),
+        8 => Some(Refusal::ParishFull),
+        9 => Some(Refusal::WrongNames),
+        10 => Some(Refusal::WrongCount),
+        11 => Some(Refusal::WrongField),
         _ => None,
     }
 }
 
+fn fault_of(kind: &str, numbers: Numbers) -> Option<LoadFault> {
+    let refusal = numbers.refusal;
+    let place = numbers.place;
+    let field = numbers.field;
+    match kind {
+        "call" => Some(LoadFault::Call(refusal)),
+        "names" => Some(LoadFault::Line(LineFault::WrongNames(place))),
+        "count" => Some(LoadFault::Line(LineFault::WrongCount(place))),
+        "field" => Some(LoadFault::Line(LineFault::Field(FieldFault { place, field }))),
+        "parish" => Some(LoadFault::Parish(ParishFault {
+            place,
+            field,
+            refusal,
+        })),
+        _ => None,
+    }
+}
+
+fn layer_of(kind: &str) -> Layer {
+    match kind {
+        "names" | "count" => Layer::Line,
+        "field" => Layer::Field,
+        _ => Layer::Parish,
+    }
+}
+
 fn run_spot(heap: Global, case: &str) -> Result<(), Fail> {
-    let mut fields = case.split('|');
-    let kind = fields.next().ok_or("no kind")?;
-    let spot = fields.next().ok_or("no spot")?;
-    let told = fields.next().ok_or("no numbers")?;
-    let mut numbers = told.split(',');
-    let refusal = refusal_of(numbers.next().ok_or("no number")?).ok_or("no refusal")?;
-    let sheet = match numbers.next() {
-        Some("1") => Sheet::Households,
-        _ => Sheet::Links,
-    };
-    let line = numbers.next().ok_or("no line")?.parse::<usize>()?;
-    let field = numbers.next().ok_or("no field")?.parse::<usize>()?;
-    let place = Place { sheet, line };
-    let (fault, layer) = match kind {
-        "call" => (LoadFault::Call(refusal), Layer::Parish),
-        "names" => (LoadFault::Line(LineFault::WrongNames(place)), Layer::Line),
-        "count" => (LoadFault::Line(LineFault::WrongCount(place)), Layer::Line),
-        "field" => (
-            LoadFault::Line(LineFault::Field(FieldFault { place, field })),
-            Layer::Field,
-        ),
-        "parish" => (
-            LoadFault::Parish(ParishFault {
-                place,
-                field,
-                refusal,
-            }),
-            Layer::Parish,
-        ),
-        _ => return Err(Fail::new("no such kind")),
-    };
-    check_fault(heap, fault, layer, told)?;
+    let (kind, rest) = case.split_once('|').ok_or("no kind")?;
+    let (spot, told) = rest.split_once('|').ok_or("no spot")?;
+    let numbers = numbers_of(told).ok_or("no numbers")?;
+    let fault = fault_of(kind, numbers).ok_or("no such kind")?;
+    check_fault(heap, fault, layer_of(kind), told)?;
     check(sheets::spot(fault, HOUSEHOLDS, LINKS) == spot.as_bytes()).note("spot")
 }
 
