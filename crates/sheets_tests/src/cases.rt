@@ -1,9 +1,9 @@
-// A case is a line of a table: what it is, two sheets, what is seen, and the numbers that are told, with `|` between
-// them. A load that is refused tells of its fault, and its spot is seen. One that is not tells its counts, and the
-// parish is seen.
+// A case is a line of a table: what it is, two sheets, a spot, and the numbers that are told, with `|` between them.
+// A load that is refused tells the numbers of its fault, and one that is not those of its summary.
 //
 // In a sheet and in a spot `$` stands for byte 10, `^` for 13, `#` for 0, `*` for 255, `=` for the worked sheet, `%` for
 // 127 households and `&` for 1023 links.
+use super::made::made_fault;
 use faults::Layer;
 use faults::LayerDebug;
 use faults::LayerPartialEq;
@@ -31,12 +31,12 @@ pub const HOUSEHOLDS: &[u8] = b"weight,lot\n3,A\n2,-\n2,-\n3,-\n";
 pub const LINKS: &[u8] = b"from,to,strength\n0,1,4\n1,2,1\n2,3,4\n0,3,1\n";
 
 #[derive(Clone, Copy)]
-struct Case<'a> {
-    what: &'a str,
-    households: &'a str,
-    links: &'a str,
-    seen: &'a str,
-    told: &'a str,
+pub struct Case<'a> {
+    pub what: &'a str,
+    pub households: &'a str,
+    pub links: &'a str,
+    pub spot: &'a str,
+    pub told: &'a str,
 }
 
 // Runs each case of a table in turn, from the worked parish on. The table has `count` of them.
@@ -56,25 +56,28 @@ fn run_lines(
 ) -> Result<(), Fail> {
     let mut ran: usize = 0;
     for line in table.lines() {
-        let case = case_of(line).ok_or(line)?;
-        run_case(heap, parish, spare, case).note(case.what)?;
+        run_case(heap, parish, spare, case_of(line)).note(line)?;
         ran = ran.wrapping_add(1);
     }
     check_eq(ran, count).note("cases")
 }
 
-fn case_of(line: &str) -> Option<Case<'_>> {
-    let mut fields = line.split('|');
-    let case = Case {
-        what: fields.next()?,
-        households: fields.next()?,
-        links: fields.next()?,
-        seen: fields.next()?,
-        told: fields.next()?,
-    };
-    match fields.next() {
-        None => Some(case),
-        Some(_) => None,
+// A line of another count of fields is a case that tells nothing.
+fn case_of(line: &str) -> Case<'_> {
+    let mut fields = [""; 5];
+    let mut count: usize = 0;
+    for field in line.split('|') {
+        if count < 5 {
+            fields[count] = field;
+        }
+        count = count.wrapping_add(1);
+    }
+    Case {
+        what: fields[0],
+        households: fields[1],
+        links: fields[2],
+        spot: fields[3],
+        told: if count == 5 { fields[4] } else { "" },
     }
 }
 
@@ -86,39 +89,117 @@ fn run_case(
 ) -> Result<(), Fail> {
     let households = bytes_of(heap, case.households, HOUSEHOLDS)?;
     let links = bytes_of(heap, case.links, LINKS)?;
-    let households = households.as_slice();
-    let links = links.as_slice();
-    match sheets::read(parish, spare, households, links) {
-        Ok(counts) => check_load(heap, parish, counts, case)?,
-        Err(fault) => check_refused(heap, parish, fault, households, links, case)?,
-    }
-    check(spare.households().is_empty() && spare.links().is_empty()).note("spare parish")
+    run_sheets(
+        heap,
+        parish,
+        spare,
+        households.as_slice(),
+        links.as_slice(),
+        case,
+    )
 }
 
-fn check_load(heap: Global, parish: &Parish, counts: Counts, case: Case<'_>) -> Result<(), Fail> {
-    let households = counts.households;
-    let links = counts.links;
-    let text = format!(heap, "{households},{links}")?;
-    check_eq(text.as_str(), case.told).note("counts")?;
-    check_parish(heap, parish, case.seen)
-}
-
-fn check_refused(
+fn run_sheets(
     heap: Global,
-    parish: &Parish,
-    fault: LoadFault,
+    parish: &mut Parish,
+    spare: &mut Parish,
     households: &[u8],
     links: &[u8],
     case: Case<'_>,
 ) -> Result<(), Fail> {
-    check_fault(heap, fault, layer_of(fault.refusal()), case.told)?;
-    let spot = bytes_of(heap, case.seen, b"")?;
-    check(sheets::spot(fault, households, links) == spot.as_slice()).note("spot")?;
-    check_worked(heap, parish)
+    let loaded = match made_fault(case) {
+        Some(fault) => Err(fault),
+        None => sheets::read(parish, spare, households, links),
+    };
+    check(spare.households().is_empty() && spare.links().is_empty()).note("spare parish")?;
+    match loaded {
+        Ok(counts) => check_load(heap, parish, counts, households, links, case.told),
+        Err(fault) => check_refused(
+            heap,
+            parish,
+            fault,
+            sheets::spot(fault, households, links),
+            case,
+        ),
+    }
+}
+
+// The parish holds what its sheets say, and its summary tells of it.
+fn check_load(
+    heap: Global,
+    parish: &Parish,
+    counts: Counts,
+    households: &[u8],
+    links: &[u8],
+    told: &str,
+) -> Result<(), Fail> {
+    let cap = parish.weight_cap(0)?;
+    check(parish.weight_cap(1_000)? == cap.wrapping_mul(2)).note("cap with the most slack")?;
+    let summary = Summary {
+        households: counts.households,
+        links: counts.links,
+        weight: parish.total_weight(),
+        cap,
+    };
+    let mut out = [0; 80];
+    let length = summary.report(&mut out)?;
+    check_report(heap, "households,links,weight,cap$=$", told, &out, length)?;
+    check_parish(heap, parish, households, links)
+}
+
+// What is told and reported of a fault, and that the parish is still the worked one.
+fn check_refused(
+    heap: Global,
+    parish: &Parish,
+    fault: LoadFault,
+    spot: &[u8],
+    case: Case<'_>,
+) -> Result<(), Fail> {
+    check_told(heap, fault, case.told)?;
+    let mut out = [0; 80];
+    let length = fault.report(&mut out)?;
+    check_report(heap, "refused,sheet,line,field$=$", case.told, &out, length)?;
+    check_spot(heap, spot, case.spot)?;
+    check_parish(heap, parish, HOUSEHOLDS, LINKS)
+}
+
+fn check_told(heap: Global, fault: LoadFault, told: &str) -> Result<(), Fail> {
+    check_eq(fault.layer(), layer_of(fault)).note("layer")?;
+    let number = fault.refusal().number();
+    let sheet = fault.sheet();
+    let line = fault.line();
+    let field = fault.field();
+    let text = format!(heap, "{number},{sheet},{line},{field}")?;
+    check_eq(text.as_str(), told).note("number, sheet, line, field")
+}
+
+// The layer that finds a fault.
+fn layer_of(fault: LoadFault) -> Layer {
+    match fault.refusal() {
+        Refusal::WrongNames | Refusal::WrongCount => Layer::Line,
+        Refusal::WrongField if fault.sheet() > 0 => Layer::Field,
+        _ => Layer::Parish,
+    }
+}
+
+fn check_report(
+    heap: Global,
+    names: &str,
+    told: &str,
+    out: &[u8],
+    length: usize,
+) -> Result<(), Fail> {
+    let text = bytes_of(heap, names, told.as_bytes())?;
+    check(length == text.len() && out.starts_with(text.as_slice())).note("report")
+}
+
+fn check_spot(heap: Global, spot: &[u8], text: &str) -> Result<(), Fail> {
+    let bytes = bytes_of(heap, text, b"")?;
+    check(spot == bytes.as_slice()).note("spot")
 }
 
 // The bytes that a text with marks stands for.
-pub fn bytes_of(heap: Global, text: &str, worked: &[u8]) -> Result<Vec<u8>, AllocError> {
+fn bytes_of(heap: Global, text: &str, worked: &[u8]) -> Result<Vec<u8>, AllocError> {
     let mut bytes = Vec::new(heap);
     for byte in text.bytes() {
         put(&mut bytes, byte, worked)?;
@@ -146,64 +227,23 @@ fn repeat(bytes: &mut Vec<u8>, count: usize, part: &[u8]) -> Result<(), AllocErr
     Ok(())
 }
 
-// The layer that finds what a load refuses.
-fn layer_of(refusal: Refusal) -> Layer {
-    match refusal {
-        Refusal::WrongNames | Refusal::WrongCount => Layer::Line,
-        Refusal::WrongField => Layer::Field,
-        _ => Layer::Parish,
-    }
+// That a parish, written out, is two sheets.
+fn check_parish(
+    heap: Global,
+    parish: &Parish,
+    households: &[u8],
+    links: &[u8],
+) -> Result<(), Fail> {
+    let mut text = String::new(heap);
+    write_households(&mut text, parish.households())?;
+    check(text.as_bytes() == households).note("households")?;
+    text.clear();
+    write_links(&mut text, parish.links())?;
+    check(text.as_bytes() == links).note("links")
 }
 
-// What is told and reported of a fault.
-pub fn check_fault(heap: Global, fault: LoadFault, layer: Layer, told: &str) -> Result<(), Fail> {
-    check_told(heap, fault, told)?;
-    check_eq(fault.layer(), layer).note("layer")?;
-    check_report(heap, fault, told)
-}
-
-fn check_told(heap: Global, fault: LoadFault, told: &str) -> Result<(), Fail> {
-    let number = fault.refusal().number();
-    let sheet = fault.sheet();
-    let line = fault.line();
-    let field = fault.field();
-    let text = format!(heap, "{number},{sheet},{line},{field}")?;
-    check_eq(text.as_str(), told).note("number, sheet, line, field")
-}
-
-fn check_report(heap: Global, fault: LoadFault, told: &str) -> Result<(), Fail> {
-    let text = format!(heap, "refused,sheet,line,field\n{told}\n")?;
-    let mut out = [0; 80];
-    let length = fault.report(&mut out)?;
-    check(length == text.len() && out.starts_with(text.as_bytes())).note("report")
-}
-
-// The summary of a parish with no slack.
-pub fn check_summary(parish: &Parish, counts: Counts, text: &[u8]) -> Result<(), Fail> {
-    let summary = Summary {
-        households: counts.households,
-        links: counts.links,
-        weight: parish.total_weight(),
-        cap: parish.weight_cap(0)?,
-    };
-    let mut out = [0; 60];
-    let length = summary.report(&mut out)?;
-    check(length == text.len() && out.starts_with(text)).note("summary")
-}
-
-pub fn check_worked(heap: Global, parish: &Parish) -> Result<(), Fail> {
-    check_parish(heap, parish, "3A 2- 2- 3- / 0>1:4 1>2:1 2>3:4 0>3:1")
-}
-
-// Each household's weight and lot, and then each link.
-fn check_parish(heap: Global, parish: &Parish, text: &str) -> Result<(), Fail> {
-    let mut shown = String::new(heap);
-    show_households(&mut shown, parish.households())?;
-    show_links(&mut shown, parish.links())?;
-    check_eq(shown.as_str(), text).note("parish")
-}
-
-fn show_households(text: &mut String, households: &[Household]) -> fmt::Result {
+fn write_households(text: &mut String, households: &[Household]) -> fmt::Result {
+    writeln!(text, "weight,lot")?;
     for household in households {
         let weight = household.weight;
         let lot = match household.pin {
@@ -211,17 +251,18 @@ fn show_households(text: &mut String, households: &[Household]) -> fmt::Result {
             Some(Lot::B) => 'B',
             None => '-',
         };
-        write!(text, "{weight}{lot} ")?;
+        writeln!(text, "{weight},{lot}")?;
     }
-    write!(text, "/")
+    Ok(())
 }
 
-fn show_links(text: &mut String, links: &[Link]) -> fmt::Result {
+fn write_links(text: &mut String, links: &[Link]) -> fmt::Result {
+    writeln!(text, "from,to,strength")?;
     for link in links {
         let from = link.from;
         let to = link.to;
         let strength = link.strength;
-        write!(text, " {from}>{to}:{strength}")?;
+        writeln!(text, "{from},{to},{strength}")?;
     }
     Ok(())
 }

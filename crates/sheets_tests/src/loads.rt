@@ -1,8 +1,6 @@
 // Loads that are not refused.
 use super::cases::HOUSEHOLDS;
 use super::cases::LINKS;
-use super::cases::check_summary;
-use super::cases::check_worked;
 use super::cases::run_cases;
 use faults::LoadFaultDebug;
 use parish::Parish;
@@ -11,15 +9,13 @@ use parish::refusals::RefusalDebug;
 use parish::refusals::RefusalPartialEq;
 use std::test::*;
 
+const WORKED: &str = "\
+the worked parish|=|=||4,4,10,5
+";
+
 #[test]
 fn worked(rt: LibcRuntime) -> Result<(), Fail> {
-    let heap = rt.alloc();
-    let mut parish = Parish::new(heap)?;
-    let mut spare = Parish::new(heap)?;
-    let counts = sheets::read(&mut parish, &mut spare, HOUSEHOLDS, LINKS)?;
-    check_worked(heap, &parish)?;
-    check(spare.households().is_empty() && spare.links().is_empty())?;
-    check_summary(&parish, counts, b"households,links,weight,cap\n4,4,10,5\n")
+    run_cases(rt.alloc(), WORKED, 1)
 }
 
 #[test]
@@ -45,14 +41,14 @@ fn check_caps(parish: &Parish) -> Result<(), Fail> {
 }
 
 const LOADS: &str = "\
-names alone|weight,lot$|from,to,strength$|/|0,0
-one household|weight,lot$0,-$|from,to,strength$|0- /|1,0
-each lot|weight,lot$1,A$2,B$3,-$|from,to,strength$|1A 2B 3- /|3,0
-the least and the most weight|weight,lot$0,B$10000,A$|from,to,strength$|0B 10000A /|2,0
-numbers of one to five digits|weight,lot$9,-$10,-$109,-$9990,-$10000,-$|from,to,strength$|9- 10- 109- 9990- 10000- /|5,0
-the least and the most strength|weight,lot$1,-$1,-$|from,to,strength$0,1,1$0,1,1000$|1- 1- / 0>1:1 0>1:1000|2,2
-both ways and twice|weight,lot$1,-$1,-$|from,to,strength$0,1,5$1,0,5$0,1,5$|1- 1- / 0>1:5 1>0:5 0>1:5|2,3
-the first and the last household|weight,lot$1,-$1,-$1,-$|from,to,strength$0,2,1$2,0,1$1,2,7$|1- 1- 1- / 0>2:1 2>0:1 1>2:7|3,3
+names alone|weight,lot$|from,to,strength$||0,0,0,0
+one household|weight,lot$0,-$|from,to,strength$||1,0,0,0
+each lot|weight,lot$1,A$2,B$3,-$|from,to,strength$||3,0,6,3
+the least and the most weight|weight,lot$0,B$10000,A$|from,to,strength$||2,0,10000,5000
+numbers of one to five digits|weight,lot$9,-$10,-$109,-$9990,-$10000,-$|from,to,strength$||5,0,20118,10059
+the least and the most strength|weight,lot$1,-$1,-$|from,to,strength$0,1,1$0,1,1000$||2,2,2,1
+both ways and twice|weight,lot$1,-$1,-$|from,to,strength$0,1,5$1,0,5$0,1,5$||2,3,2,1
+the first and the last household|weight,lot$1,-$1,-$1,-$|from,to,strength$0,2,1$2,0,1$1,2,7$||3,3,3,2
 ";
 
 // Each load replaces the one before.

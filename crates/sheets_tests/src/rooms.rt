@@ -1,37 +1,14 @@
 // The largest parish, and one record more.
-use super::cases::bytes_of;
-use super::cases::check_summary;
 use super::cases::run_cases;
-use faults::LoadFaultDebug;
-use parish::Parish;
-use parish::refusals::RefusalDebug;
-use parish::refusals::RefusalPartialEq;
-use std::alloc::Global;
 use std::test::*;
+
+const LARGEST: &str = "\
+the largest|weight,lot$%9999,-$|from,to,strength$&127,126,1$||128,1024,1279999,640000
+";
 
 #[test]
 fn largest(rt: LibcRuntime) -> Result<(), Fail> {
-    let heap = rt.alloc();
-    let households = bytes_of(heap, "weight,lot$%9999,-$", b"")?;
-    let links = bytes_of(heap, "from,to,strength$&127,126,1$", b"")?;
-    load_largest(heap, households.as_slice(), links.as_slice())
-}
-
-fn load_largest(heap: Global, households: &[u8], links: &[u8]) -> Result<(), Fail> {
-    let mut parish = Parish::new(heap)?;
-    let mut spare = Parish::new(heap)?;
-    let counts = sheets::read(&mut parish, &mut spare, households, links)?;
-    let text = b"households,links,weight,cap\n128,1024,1279999,640000\n";
-    check_summary(&parish, counts, text)?;
-    check_largest(&parish)
-}
-
-fn check_largest(parish: &Parish) -> Result<(), Fail> {
-    check_eq(parish.weight_cap(1_000), Ok(1_280_000))?;
-    let household = parish.households().last().ok_or("no household")?;
-    check_eq(household.weight, 9_999)?;
-    let link = parish.links().last().ok_or("no link")?;
-    check(link.from == 127 && link.to == 126)
+    run_cases(rt.alloc(), LARGEST, 1)
 }
 
 const ROOMS: &str = "\
