@@ -4,6 +4,7 @@
 // In a sheet and in a spot `$` stands for byte 10, `^` for 13, `#` for 0, `*` for 255, `=` for the worked sheet, `%` for
 // 127 households and `&` for 1023 links.
 use super::made::made_fault;
+use super::made::numbers_of;
 use faults::Layer;
 use faults::LayerDebug;
 use faults::LayerPartialEq;
@@ -31,12 +32,12 @@ pub const HOUSEHOLDS: &[u8] = b"weight,lot\n3,A\n2,-\n2,-\n3,-\n";
 pub const LINKS: &[u8] = b"from,to,strength\n0,1,4\n1,2,1\n2,3,4\n0,3,1\n";
 
 #[derive(Clone, Copy)]
-pub struct Case<'a> {
-    pub what: &'a str,
-    pub households: &'a str,
-    pub links: &'a str,
-    pub spot: &'a str,
-    pub told: &'a str,
+struct Case<'a> {
+    what: &'a str,
+    households: &'a str,
+    links: &'a str,
+    spot: &'a str,
+    told: &'a str,
 }
 
 // Runs each case of a table in turn, from the worked parish on. The table has `count` of them.
@@ -107,11 +108,11 @@ fn run_sheets(
     links: &[u8],
     case: Case<'_>,
 ) -> Result<(), Fail> {
-    let loaded = match made_fault(case) {
+    let loaded = match made_fault(case.what, numbers_of(case.told)) {
         Some(fault) => Err(fault),
         None => sheets::read(parish, spare, households, links),
     };
-    check(spare.households().is_empty() && spare.links().is_empty()).note("spare parish")?;
+    check(spare.households().len() == 0 && spare.links().len() == 0).note("spare parish")?;
     match loaded {
         Ok(counts) => check_load(heap, parish, counts, households, links, case.told),
         Err(fault) => check_refused(
@@ -155,7 +156,7 @@ fn check_refused(
     spot: &[u8],
     case: Case<'_>,
 ) -> Result<(), Fail> {
-    check_told(heap, fault, case.told)?;
+    check_told(fault, numbers_of(case.told))?;
     let mut out = [0; 80];
     let length = fault.report(&mut out)?;
     check_report(heap, "refused,sheet,line,field$=$", case.told, &out, length)?;
@@ -163,14 +164,15 @@ fn check_refused(
     check_parish(heap, parish, HOUSEHOLDS, LINKS)
 }
 
-fn check_told(heap: Global, fault: LoadFault, told: &str) -> Result<(), Fail> {
-    check_eq(fault.layer(), layer_of(fault)).note("layer")?;
-    let number = fault.refusal().number();
-    let sheet = fault.sheet();
-    let line = fault.line();
-    let field = fault.field();
-    let text = format!(heap, "{number},{sheet},{line},{field}")?;
-    check_eq(text.as_str(), told).note("number, sheet, line, field")
+fn check_told(fault: LoadFault, numbers: [usize; 4]) -> Result<(), Fail> {
+    let told = [
+        fault.refusal().number() as usize,
+        fault.sheet() as usize,
+        fault.line(),
+        fault.field(),
+    ];
+    check_eq(told, numbers).note("number, sheet, line, field")?;
+    check_eq(fault.layer(), layer_of(fault)).note("layer")
 }
 
 // The layer that finds a fault.

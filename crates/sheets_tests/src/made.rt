@@ -1,5 +1,4 @@
-// Faults that no load gave, made of a case: its kind is what the case is, and it has the numbers that are told.
-use super::cases::Case;
+// Faults that no load gave, made of a kind and of the numbers that are told.
 use faults::FieldFault;
 use faults::LineFault;
 use faults::LoadFault;
@@ -7,39 +6,32 @@ use faults::ParishFault;
 use faults::Place;
 use faults::Sheet;
 use parish::Refusal;
-use std::str::Split;
 
-pub fn made_fault(case: Case<'_>) -> Option<LoadFault> {
-    let mut numbers = case.told.split(',');
-    let refusal = refusal_of(number_in(&mut numbers)?)?;
-    let sheet = match number_in(&mut numbers)? {
-        1 => Sheet::Households,
-        _ => Sheet::Links,
-    };
-    let line = number_in(&mut numbers)?;
-    let field = number_in(&mut numbers)?;
-    fault_of(case.what, refusal, Place { sheet, line }, field)
-}
-
-fn number_in(numbers: &mut Split<'_, char>) -> Option<usize> {
-    numbers.next()?.parse::<usize>().ok()
-}
-
-fn refusal_of(number: usize) -> Option<Refusal> {
-    match number {
-        1 => Some(Refusal::SearchOpen),
-        5 => Some(Refusal::OutsideLimits),
-        6 => Some(Refusal::NoHousehold),
-        7 => Some(Refusal::SelfLink),
-        8 => Some(Refusal::ParishFull),
-        9 => Some(Refusal::WrongNames),
-        10 => Some(Refusal::WrongCount),
-        11 => Some(Refusal::WrongField),
-        _ => None,
+// The four numbers of a text, 0 for what is none.
+pub fn numbers_of(told: &str) -> [usize; 4] {
+    let mut numbers = [0; 4];
+    let mut count: usize = 0;
+    for part in told.split(',') {
+        if count < 4 {
+            numbers[count] = part.parse::<usize>().unwrap_or(0);
+        }
+        count = count.wrapping_add(1);
     }
+    numbers
 }
 
-fn fault_of(kind: &str, refusal: Refusal, place: Place, field: usize) -> Option<LoadFault> {
+pub fn made_fault(kind: &str, numbers: [usize; 4]) -> Option<LoadFault> {
+    let refusal = refusal_of(numbers[0]);
+    let sheet = if numbers[1] == 1 {
+        Sheet::Households
+    } else {
+        Sheet::Links
+    };
+    let place = Place {
+        sheet,
+        line: numbers[2],
+    };
+    let field = numbers[3];
     match kind {
         "!call" => Some(LoadFault::Call(refusal)),
         "!names" => Some(LoadFault::Line(LineFault::WrongNames(place))),
@@ -51,5 +43,18 @@ fn fault_of(kind: &str, refusal: Refusal, place: Place, field: usize) -> Option<
             refusal,
         })),
         _ => None,
+    }
+}
+
+fn refusal_of(number: usize) -> Refusal {
+    match number {
+        1 => Refusal::SearchOpen,
+        5 => Refusal::OutsideLimits,
+        6 => Refusal::NoHousehold,
+        7 => Refusal::SelfLink,
+        8 => Refusal::ParishFull,
+        9 => Refusal::WrongNames,
+        10 => Refusal::WrongCount,
+        _ => Refusal::WrongField,
     }
 }
