@@ -1,3 +1,4 @@
+pub mod Lots
 pub mod Refusals
 pub mod Limits
 pub mod Model

@@ -1,10 +1,21 @@
 // The parts of a parish.
+ghost use mathlib.Core.Path.{_≡_};
+ghost use Rattle.parish.specs.Lots.{lot-byte};
 
 // One of the two lots.
 #[derive(Clone, Copy, PartialEq, Eq, Debug)]
 pub enum Lot {
     A = 1,
     B = 2,
+}
+
+impl Lot {
+    // Its byte in a list of lots.
+    pub fn byte(self) -> u8
+        ensures { λ r. ⌜ r ≡ lot-byte self ⌝ }
+    {
+        self as u8
+    }
 }
 
 // A household, with the lot that it is pinned to, if any.
