@@ -7,17 +7,12 @@ use lib.Dec.{eqb, leb}
 use lib.ListN.{length, getD}
 use Rattle.std.specs.declared.option.Option.{Option}
 use Rattle.std.specs.declared.option.Option.the-variants.{Some, None}
+use Rattle.parish.specs.Lots.{lot-byte}
 use Rattle.parish.specs.Model.{Model}
 use Rattle.parish.specs.Refusals.{Row}
 use Rattle.parish.specs.declared.items.Household.{Household}
 use Rattle.parish.specs.declared.items.Lot.{Lot}
-use Rattle.parish.specs.declared.items.Lot.the-variants.{A, B}
 use Rattle.parish.specs.declared.refusals.Refusal.the-variants.{WrongList}
-
--- the byte of a lot
-abbrev pub lot-byte : Lot → ℕ
-lot-byte A = 1
-lot-byte B = 2
 
 -- the byte of a pin: 0 where there is none
 abbrev pub pin-byte : Option Lot → ℕ

@@ -14,10 +14,12 @@ use Rattle.faults.specs.declared.LoadFault.the-variants as load
 use Rattle.faults.specs.declared.Layer.{Layer}
 use Rattle.faults.specs.declared.Layer.the-variants as layer
 
+-- the number of a sheet
 abbrev pub sheet-number : Sheet → ℕ
 sheet-number Households = 1
 sheet-number Links = 2
 
+-- where a line's fault is
 abbrev pub line-fault-place : LineFault → Place
 line-fault-place (line.WrongNames p) = p
 line-fault-place (line.WrongCount p) = p
@@ -37,10 +39,12 @@ fault-place (load.Call e) = None
 fault-place (load.Line f) = Some (line-fault-place f)
 fault-place (load.Parish f) = Some (f .place)
 
+-- the sheet of a place, and 0 for none
 abbrev pub sheet-at : Option Place → ℕ
 sheet-at None = 0
 sheet-at (Some p) = sheet-number (p .sheet)
 
+-- the line of a place, and 0 for none
 abbrev pub line-at : Option Place → ℕ
 line-at None = 0
 line-at (Some p) = p .line

@@ -16,12 +16,14 @@ use Rattle.parish.specs.Limits.{most-households, most-links, most-weight, most
 use Rattle.parish.specs.Model.{Model}
 use Rattle.parish.specs.Refusals.{Row, first-applying}
 
+-- why a household of a weight is refused
 abbrev pub household-table : Model → ℕ → List Row
 household-table m weight =
     record { applies = ltb most-weight weight; refusal = OutsideLimits }
     ∷ (record { applies = leb most-households (length (m .households)); refusal = ParishFull }
     ∷ [])
 
+-- why a link is refused
 abbrev pub link-table : Model → Link → List Row
 link-table m l =
     record { applies = ltb (l .strength) 1 || ltb most-strength (l .strength); refusal = OutsideLimits }
@@ -30,6 +32,7 @@ link-table m l =
     ∷ (record { applies = leb most-links (length (m .links)); refusal = ParishFull }
     ∷ [])))
 
+-- why a pin is refused
 abbrev pub pin-table : Model → ℕ → List Row
 pin-table m household = record { applies = leb (length (m .households)) household; refusal = NoHousehold } ∷ []
 

@@ -7,27 +7,31 @@ use lib.ListN.{length, getD}
 use Rattle.parish.specs.declared.items.Household.{Household}
 use Rattle.parish.specs.declared.items.Link.{Link}
 
+-- how many households there may be
 abbrev pub most-households : ℕ
 most-households = 128
 
+-- how many links there may be
 abbrev pub most-links : ℕ
 most-links = 1024
 
--- what a parish can hold: the heaviest household, and the strongest link
+-- what a parish can hold: the heaviest household
 abbrev pub heaviest-held : ℕ
 heaviest-held = 10000
 
+-- and the strongest link
 abbrev pub strongest-held : ℕ
 strongest-held = 1000
 
--- what a call accepts
+-- what a call accepts: the greatest weight
 abbrev pub most-weight : ℕ
 most-weight = 10000
 
+-- and the greatest strength
 abbrev pub most-strength : ℕ
 most-strength = 1000
 
--- in thousandths
+-- and the greatest tolerance, in thousandths
 abbrev pub most-tolerance : ℕ
 most-tolerance = 1000
 

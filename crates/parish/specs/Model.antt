@@ -22,10 +22,11 @@ pub record Sound (m : Model) : Type 0 where
   pub short : length (m .links) ≤ most-links
   pub joined : Joined (length (m .households)) (m .links)
 
--- what stands past the end of a list of households, and of links
+-- what stands past the end of a list of households
 abbrev pub no-household : Household
 no-household = record { weight = 0; pin = None }
 
+-- and of a list of links
 abbrev pub no-link : Link
 no-link = record { from = 0; to = 0; strength = 0 }
 

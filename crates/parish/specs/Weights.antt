@@ -20,5 +20,6 @@ half-up w = (w + 1) / 2
 abbrev pub cap-at : ℕ → ℕ → ℕ
 cap-at w p = (1000 + p) * half-up w / 1000
 
+-- why a tolerance is refused
 abbrev pub cap-table : ℕ → List Row
 cap-table p = record { applies = ltb most-tolerance p; refusal = OutsideLimits } ∷ []

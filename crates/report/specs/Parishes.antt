@@ -21,9 +21,11 @@ summary-of m =
       cap = cap-at (total-weight (m .households)) 0;
     }
 
+-- the report of a load
 abbrev pub outcome-text : Result Model LoadFault → List ℕ
 outcome-text (Ok m) = summary-text (summary-of m)
 outcome-text (Err f) = fault-text f
 
+-- the report of two sheets
 abbrev pub sheets-text : List ℕ → List ℕ → List ℕ
 sheets-text households links = outcome-text (loaded households links)

@@ -18,8 +18,10 @@ numbers-line (n ∷ (m ∷ ns)) = decimal n ++ (44 ∷ numbers-line (m ∷ ns))
 abbrev pub row-text : List ℕ → List ℕ → List ℕ
 row-text names numbers = names ++ numbers-line numbers
 
+-- a parish in four numbers
 abbrev pub summary-text : Summary → List ℕ
 summary-text s = row-text (codes "households,links,weight,cap" ++ (10 ∷ [])) (s .households ∷ (s .links ∷ (s .weight ∷ (s .«cap» ∷ []))))
 
+-- a fault in four numbers
 abbrev pub fault-text : LoadFault → List ℕ
 fault-text f = row-text (codes "refused,sheet,line,field" ++ (10 ∷ [])) (refusal-number (fault-refusal f) ∷ (fault-sheet f ∷ (fault-line f ∷ (fault-field f ∷ []))))

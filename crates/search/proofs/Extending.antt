@@ -16,7 +16,8 @@ use Rattle.parish.specs.Model.{Model}
 use Rattle.parish.specs.declared.items.Household.{Household}
 use Rattle.parish.specs.declared.items.Lot.{Lot}
 use Rattle.parish.specs.declared.items.Lot.the-variants.{A, B}
-use Rattle.bisection.specs.Lots.{lot-byte, pins, Lots, Bisects, Extends}
+use Rattle.parish.specs.Lots.{lot-byte}
+use Rattle.bisection.specs.Lots.{pins, Lots, Bisects, Extends}
 use Rattle.bisection.specs.Weights.{lot-weight, Balanced}
 use Rattle.search.specs.Nodes.{free, dealt, lots-of}
 use Rattle.search.proofs.Order.{leaves, leaves-below}

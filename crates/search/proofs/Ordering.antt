@@ -9,7 +9,7 @@ use lib.ListN.{length, length-map}
 use Rattle.std.proofs.shelf.Tests.{false≢true}
 use Rattle.parish.specs.declared.items.Lot.{Lot}
 use Rattle.parish.specs.declared.items.Lot.the-variants.{A, B}
-use Rattle.bisection.specs.Lots.{lot-byte}
+use Rattle.parish.specs.Lots.{lot-byte}
 use Rattle.bisection.specs.Bisections.{before}
 use Rattle.search.specs.Words.{Order-law}
 use Rattle.search.proofs.Listed.{AllSet, one-or-two, before-self}

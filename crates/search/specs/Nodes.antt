@@ -11,7 +11,8 @@ use Rattle.std.specs.declared.option.Option.the-variants.{Some, None}
 use Rattle.parish.specs.Model.{Model}
 use Rattle.parish.specs.declared.items.Lot.{Lot}
 use Rattle.parish.specs.declared.items.Lot.the-variants.{A, B}
-use Rattle.bisection.specs.Lots.{lot-byte, pins}
+use Rattle.parish.specs.Lots.{lot-byte}
+use Rattle.bisection.specs.Lots.{pins}
 use Rattle.bisection.specs.Weights.{balanced}
 use Rattle.bisection.specs.Costs.{cost}
 use Rattle.bisection.specs.Bisections.{lawful-bisections, before}

@@ -12,6 +12,7 @@ use Rattle.faults.specs.declared.Sheet.the-variants.{Households, Links}
 use Rattle.faults.specs.Faults.{fault-place, fault-field}
 use Rattle.spelling.specs.Pieces.{pieces, numbered}
 
+-- the one of the two sheets that is meant
 abbrev pub chosen : Sheet → List ℕ → List ℕ → List ℕ
 chosen Households households links = households
 chosen Links households links = links
@@ -20,6 +21,7 @@ chosen Links households links = links
 abbrev pub field-of : ℕ → List ℕ → List ℕ
 field-of k line = cond (eqb k 0) line (numbered k (pieces 44 line))
 
+-- the part at a place; nothing where there is no place
 abbrev pub spot-at : Option Place → ℕ → List ℕ → List ℕ → List ℕ
 spot-at None k households links = []
 spot-at (Some p) k households links = field-of k (numbered (p .line) (pieces 10 (chosen (p .sheet) households links)))

@@ -28,6 +28,7 @@ writes meaning f = isSome (meaning f)
 abbrev pub field : {X : Type 0} → (List ℕ → Option X) → X → List (List ℕ) → ℕ → X
 field meaning default fs k = valueOr (meaning (getD fs k [])) default
 
+-- a kind of sheet, whose value lines write records R
 pub record Kind (R : Type 0) : Type 0 where
   pub sheet : Sheet
   pub names : List ℕ
@@ -57,6 +58,7 @@ blamed-in-household WrongNames = 0
 blamed-in-household WrongCount = 0
 blamed-in-household WrongField = 0
 
+-- the households sheet
 abbrev pub households-kind : Kind Household
 households-kind =
     record {
@@ -84,6 +86,7 @@ blamed-in-link households l WrongNames = 0
 blamed-in-link households l WrongCount = 0
 blamed-in-link households l WrongField = 0
 
+-- the links sheet
 abbrev pub links-kind : Kind Link
 links-kind =
     record {

@@ -26,6 +26,7 @@ use Rattle.spelling.specs.Fields.{same, number-of, pin-of}
 use Rattle.spelling.specs.Kinds.{Kind}
 use Rattle.spelling.specs.Pieces.{pieces}
 
+-- a result, and what comes after it where it is good
 abbrev pub and-then : {X Y E : Type 0} → Result X E → (X → Result Y E) → Result Y E
 and-then (Ok x) f = f x
 and-then (Err e) f = Err e
@@ -69,6 +70,7 @@ module _ {R : Type 0} (K : Kind R) where
   Added p m r m′ (Ok x) = accepted p m r ≡ Ok m′
   Added p m r m′ (Err e) = (accepted p m r ≡ Err e) × (m′ ≡ m)
 
+  -- a parish, once a line is read onto it
   abbrev pub line-read : Place → Model → List ℕ → Result Model LoadFault
   line-read p m line = and-then (raised Line (spelt p line)) (λ r. raised Parish (accepted p m r))
 
@@ -103,11 +105,13 @@ Read outcome m (Err f) = outcome ≡ Err f
 abbrev pub wanted-field : {X : Type 0} → (List ℕ → Option X) → Place → ℕ → List ℕ → Result X LineFault
 wanted-field meaning p k f = raised Field (okOr (meaning f) (record { place = p; field = k }))
 
+-- a household by its two fields
 abbrev pub household-by : Place → List ℕ → List ℕ → Result Household LineFault
 household-by p a b =
     and-then (wanted-field number-of p 1 a) (λ weight.
     and-then (wanted-field pin-of p 2 b) (λ pin. Ok (record { weight = weight; pin = pin })))
 
+-- a link by its three fields
 abbrev pub link-by : Place → List ℕ → List ℕ → List ℕ → Result Link LineFault
 link-by p a b c =
     and-then (wanted-field number-of p 1 a) (λ from.

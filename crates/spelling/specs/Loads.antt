@@ -15,6 +15,7 @@ use Rattle.spelling.specs.Lines.{and-then, sheet-read}
 abbrev pub loaded : List ℕ → List ℕ → Result Model LoadFault
 loaded households links = and-then (sheet-read households-kind no-model households) (λ m. sheet-read links-kind m links)
 
+-- how many households and links there are
 abbrev pub counts-of : Model → Counts
 counts-of m = record { households = length (m .households); links = length (m .links) }
 
