@@ -1,342 +1,51 @@
 // Lines with a wrong count of fields, or with no byte 10 at their end.
-use super::cases::Case;
-use super::cases::HOUSEHOLDS;
-use super::cases::LINKS;
 use super::cases::run_cases;
 use std::test::*;
 
-const HOUSEHOLDS_COUNTS: &[Case<'static>] = &[
-    Case {
-        what: "one field on the first line",
-        households: b"weight,lot\n3\n2,-\n",
-        links: LINKS,
-        number: 10,
-        sheet: 1,
-        line: 2,
-        field: 0,
-        spot: b"3",
-    },
-    Case {
-        what: "one field on the last line",
-        households: b"weight,lot\n3,A\n2,-\n2\n",
-        links: LINKS,
-        number: 10,
-        sheet: 1,
-        line: 4,
-        field: 0,
-        spot: b"2",
-    },
-    Case {
-        what: "three fields on the first line",
-        households: b"weight,lot\n3,A,\n2,-\n",
-        links: LINKS,
-        number: 10,
-        sheet: 1,
-        line: 2,
-        field: 0,
-        spot: b"3,A,",
-    },
-    Case {
-        what: "three fields on the last line",
-        households: b"weight,lot\n3,A\n2,-\n2,-,-\n",
-        links: LINKS,
-        number: 10,
-        sheet: 1,
-        line: 4,
-        field: 0,
-        spot: b"2,-,-",
-    },
-    Case {
-        what: "an empty line first",
-        households: b"weight,lot\n\n3,A\n",
-        links: LINKS,
-        number: 10,
-        sheet: 1,
-        line: 2,
-        field: 0,
-        spot: b"",
-    },
-    Case {
-        what: "an empty line between",
-        households: b"weight,lot\n3,A\n\n2,-\n",
-        links: LINKS,
-        number: 10,
-        sheet: 1,
-        line: 3,
-        field: 0,
-        spot: b"",
-    },
-    Case {
-        what: "an empty line last",
-        households: b"weight,lot\n3,A\n\n",
-        links: LINKS,
-        number: 10,
-        sheet: 1,
-        line: 3,
-        field: 0,
-        spot: b"",
-    },
-    Case {
-        what: "an empty line alone",
-        households: b"weight,lot\n\n",
-        links: LINKS,
-        number: 10,
-        sheet: 1,
-        line: 2,
-        field: 0,
-        spot: b"",
-    },
-    Case {
-        what: "commas alone",
-        households: b"weight,lot\n,,\n",
-        links: LINKS,
-        number: 10,
-        sheet: 1,
-        line: 2,
-        field: 0,
-        spot: b",,",
-    },
-    Case {
-        what: "many commas",
-        households: b"weight,lot\n,,,,,,,,\n",
-        links: LINKS,
-        number: 10,
-        sheet: 1,
-        line: 2,
-        field: 0,
-        spot: b",,,,,,,,",
-    },
-    Case {
-        what: "a semicolon for the comma",
-        households: b"weight,lot\n3;A\n",
-        links: LINKS,
-        number: 10,
-        sheet: 1,
-        line: 2,
-        field: 0,
-        spot: b"3;A",
-    },
-    Case {
-        what: "byte 13 alone on a line",
-        households: b"weight,lot\n3,A\n\r\n",
-        links: LINKS,
-        number: 10,
-        sheet: 1,
-        line: 3,
-        field: 0,
-        spot: b"\r",
-    },
-    Case {
-        what: "byte 13 for byte 10",
-        households: b"weight,lot\n3,A\r2,-\r",
-        links: LINKS,
-        number: 10,
-        sheet: 1,
-        line: 2,
-        field: 0,
-        spot: b"3,A\r2,-\r",
-    },
-    Case {
-        what: "no byte 10 on the only line",
-        households: b"weight,lot\n3,A",
-        links: LINKS,
-        number: 10,
-        sheet: 1,
-        line: 2,
-        field: 0,
-        spot: b"3,A",
-    },
-    Case {
-        what: "no byte 10 on the last line",
-        households: b"weight,lot\n3,A\n2,-",
-        links: LINKS,
-        number: 10,
-        sheet: 1,
-        line: 3,
-        field: 0,
-        spot: b"2,-",
-    },
-    Case {
-        what: "one digit and no byte 10",
-        households: b"weight,lot\n3,A\n2",
-        links: LINKS,
-        number: 10,
-        sheet: 1,
-        line: 3,
-        field: 0,
-        spot: b"2",
-    },
-    Case {
-        what: "one comma and no byte 10",
-        households: b"weight,lot\n3,A\n,",
-        links: LINKS,
-        number: 10,
-        sheet: 1,
-        line: 3,
-        field: 0,
-        spot: b",",
-    },
-    Case {
-        what: "three fields and no byte 10",
-        households: b"weight,lot\n3,A\n2,-,-",
-        links: LINKS,
-        number: 10,
-        sheet: 1,
-        line: 3,
-        field: 0,
-        spot: b"2,-,-",
-    },
-];
-
-const LINKS_COUNTS: &[Case<'static>] = &[
-    Case {
-        what: "two fields on the first line",
-        households: HOUSEHOLDS,
-        links: b"from,to,strength\n0,1\n1,2,1\n",
-        number: 10,
-        sheet: 2,
-        line: 2,
-        field: 0,
-        spot: b"0,1",
-    },
-    Case {
-        what: "two fields on the last line",
-        households: HOUSEHOLDS,
-        links: b"from,to,strength\n0,1,4\n1,2,1\n2,3\n",
-        number: 10,
-        sheet: 2,
-        line: 4,
-        field: 0,
-        spot: b"2,3",
-    },
-    Case {
-        what: "four fields on the first line",
-        households: HOUSEHOLDS,
-        links: b"from,to,strength\n0,1,4,\n1,2,1\n",
-        number: 10,
-        sheet: 2,
-        line: 2,
-        field: 0,
-        spot: b"0,1,4,",
-    },
-    Case {
-        what: "four fields on the last line",
-        households: HOUSEHOLDS,
-        links: b"from,to,strength\n0,1,4\n1,2,1\n2,3,4,5\n",
-        number: 10,
-        sheet: 2,
-        line: 4,
-        field: 0,
-        spot: b"2,3,4,5",
-    },
-    Case {
-        what: "one field",
-        households: HOUSEHOLDS,
-        links: b"from,to,strength\n0\n",
-        number: 10,
-        sheet: 2,
-        line: 2,
-        field: 0,
-        spot: b"0",
-    },
-    Case {
-        what: "an empty line first",
-        households: HOUSEHOLDS,
-        links: b"from,to,strength\n\n0,1,4\n",
-        number: 10,
-        sheet: 2,
-        line: 2,
-        field: 0,
-        spot: b"",
-    },
-    Case {
-        what: "an empty line between",
-        households: HOUSEHOLDS,
-        links: b"from,to,strength\n0,1,4\n\n1,2,1\n",
-        number: 10,
-        sheet: 2,
-        line: 3,
-        field: 0,
-        spot: b"",
-    },
-    Case {
-        what: "an empty line last",
-        households: HOUSEHOLDS,
-        links: b"from,to,strength\n0,1,4\n\n",
-        number: 10,
-        sheet: 2,
-        line: 3,
-        field: 0,
-        spot: b"",
-    },
-    Case {
-        what: "one comma alone",
-        households: HOUSEHOLDS,
-        links: b"from,to,strength\n,\n",
-        number: 10,
-        sheet: 2,
-        line: 2,
-        field: 0,
-        spot: b",",
-    },
-    Case {
-        what: "three commas alone",
-        households: HOUSEHOLDS,
-        links: b"from,to,strength\n,,,\n",
-        number: 10,
-        sheet: 2,
-        line: 2,
-        field: 0,
-        spot: b",,,",
-    },
-    Case {
-        what: "no byte 10 on the only line",
-        households: HOUSEHOLDS,
-        links: b"from,to,strength\n0,1,4",
-        number: 10,
-        sheet: 2,
-        line: 2,
-        field: 0,
-        spot: b"0,1,4",
-    },
-    Case {
-        what: "no byte 10 on the last line",
-        households: HOUSEHOLDS,
-        links: b"from,to,strength\n0,1,4\n1,2,1",
-        number: 10,
-        sheet: 2,
-        line: 3,
-        field: 0,
-        spot: b"1,2,1",
-    },
-    Case {
-        what: "one digit and no byte 10",
-        households: HOUSEHOLDS,
-        links: b"from,to,strength\n0,1,4\n1",
-        number: 10,
-        sheet: 2,
-        line: 3,
-        field: 0,
-        spot: b"1",
-    },
-    Case {
-        what: "byte 13 and no byte 10",
-        households: HOUSEHOLDS,
-        links: b"from,to,strength\n0,1,4\n\r",
-        number: 10,
-        sheet: 2,
-        line: 3,
-        field: 0,
-        spot: b"\r",
-    },
-];
+const HOUSEHOLDS_COUNTS: &str = "\
+one field on the first line|weight,lot$3$2,-$|=|3|10,1,2,0
+one field on the last line|weight,lot$3,A$2,-$2$|=|2|10,1,4,0
+three fields on the first line|weight,lot$3,A,$2,-$|=|3,A,|10,1,2,0
+three fields on the last line|weight,lot$3,A$2,-$2,-,-$|=|2,-,-|10,1,4,0
+an empty line first|weight,lot$$3,A$|=||10,1,2,0
+an empty line between|weight,lot$3,A$$2,-$|=||10,1,3,0
+an empty line last|weight,lot$3,A$$|=||10,1,3,0
+an empty line alone|weight,lot$$|=||10,1,2,0
+commas alone|weight,lot$,,$|=|,,|10,1,2,0
+many commas|weight,lot$,,,,,,,,$|=|,,,,,,,,|10,1,2,0
+a semicolon for the comma|weight,lot$3;A$|=|3;A|10,1,2,0
+byte 13 alone on a line|weight,lot$3,A$^$|=|^|10,1,3,0
+byte 13 for byte 10|weight,lot$3,A^2,-^|=|3,A^2,-^|10,1,2,0
+no byte 10 on the only line|weight,lot$3,A|=|3,A|10,1,2,0
+no byte 10 on the last line|weight,lot$3,A$2,-|=|2,-|10,1,3,0
+one digit and no byte 10|weight,lot$3,A$2|=|2|10,1,3,0
+one comma and no byte 10|weight,lot$3,A$,|=|,|10,1,3,0
+three fields and no byte 10|weight,lot$3,A$2,-,-|=|2,-,-|10,1,3,0
+";
 
 #[test]
 fn counts_of_households(rt: LibcRuntime) -> Result<(), Fail> {
-    run_cases(rt.alloc(), HOUSEHOLDS_COUNTS)
+    run_cases(rt.alloc(), HOUSEHOLDS_COUNTS, 18)
 }
+
+const LINKS_COUNTS: &str = "\
+two fields on the first line|=|from,to,strength$0,1$1,2,1$|0,1|10,2,2,0
+two fields on the last line|=|from,to,strength$0,1,4$1,2,1$2,3$|2,3|10,2,4,0
+four fields on the first line|=|from,to,strength$0,1,4,$1,2,1$|0,1,4,|10,2,2,0
+four fields on the last line|=|from,to,strength$0,1,4$1,2,1$2,3,4,5$|2,3,4,5|10,2,4,0
+one field|=|from,to,strength$0$|0|10,2,2,0
+an empty line first|=|from,to,strength$$0,1,4$||10,2,2,0
+an empty line between|=|from,to,strength$0,1,4$$1,2,1$||10,2,3,0
+an empty line last|=|from,to,strength$0,1,4$$||10,2,3,0
+one comma alone|=|from,to,strength$,$|,|10,2,2,0
+three commas alone|=|from,to,strength$,,,$|,,,|10,2,2,0
+no byte 10 on the only line|=|from,to,strength$0,1,4|0,1,4|10,2,2,0
+no byte 10 on the last line|=|from,to,strength$0,1,4$1,2,1|1,2,1|10,2,3,0
+one digit and no byte 10|=|from,to,strength$0,1,4$1|1|10,2,3,0
+byte 13 and no byte 10|=|from,to,strength$0,1,4$^|^|10,2,3,0
+";
 
 #[test]
 fn counts_of_links(rt: LibcRuntime) -> Result<(), Fail> {
-    run_cases(rt.alloc(), LINKS_COUNTS)
+    run_cases(rt.alloc(), LINKS_COUNTS, 14)
 }

@@ -1,660 +1,90 @@
 // Fields that are neither number nor lot letter as wanted.
-use super::cases::Case;
-use super::cases::HOUSEHOLDS;
-use super::cases::LINKS;
 use super::cases::run_cases;
 use std::test::*;
 
-const WEIGHTS: &[Case<'static>] = &[
-    Case {
-        what: "no weight",
-        households: b"weight,lot\n,A\n",
-        links: LINKS,
-        number: 11,
-        sheet: 1,
-        line: 2,
-        field: 1,
-        spot: b"",
-    },
-    Case {
-        what: "two zeros",
-        households: b"weight,lot\n00,A\n",
-        links: LINKS,
-        number: 11,
-        sheet: 1,
-        line: 2,
-        field: 1,
-        spot: b"00",
-    },
-    Case {
-        what: "a zero before a digit",
-        households: b"weight,lot\n01,A\n",
-        links: LINKS,
-        number: 11,
-        sheet: 1,
-        line: 2,
-        field: 1,
-        spot: b"01",
-    },
-    Case {
-        what: "a zero before digits",
-        households: b"weight,lot\n010,A\n",
-        links: LINKS,
-        number: 11,
-        sheet: 1,
-        line: 2,
-        field: 1,
-        spot: b"010",
-    },
-    Case {
-        what: "eight digits",
-        households: b"weight,lot\n12345678,A\n",
-        links: LINKS,
-        number: 11,
-        sheet: 1,
-        line: 2,
-        field: 1,
-        spot: b"12345678",
-    },
-    Case {
-        what: "the least of eight digits",
-        households: b"weight,lot\n10000000,A\n",
-        links: LINKS,
-        number: 11,
-        sheet: 1,
-        line: 2,
-        field: 1,
-        spot: b"10000000",
-    },
-    Case {
-        what: "eight zeros",
-        households: b"weight,lot\n00000000,A\n",
-        links: LINKS,
-        number: 11,
-        sheet: 1,
-        line: 2,
-        field: 1,
-        spot: b"00000000",
-    },
-    Case {
-        what: "twenty digits",
-        households: b"weight,lot\n18446744073709551617,A\n",
-        links: LINKS,
-        number: 11,
-        sheet: 1,
-        line: 2,
-        field: 1,
-        spot: b"18446744073709551617",
-    },
-    Case {
-        what: "a minus sign",
-        households: b"weight,lot\n-1,A\n",
-        links: LINKS,
-        number: 11,
-        sheet: 1,
-        line: 2,
-        field: 1,
-        spot: b"-1",
-    },
-    Case {
-        what: "a plus sign",
-        households: b"weight,lot\n+1,A\n",
-        links: LINKS,
-        number: 11,
-        sheet: 1,
-        line: 2,
-        field: 1,
-        spot: b"+1",
-    },
-    Case {
-        what: "a space before",
-        households: b"weight,lot\n 1,A\n",
-        links: LINKS,
-        number: 11,
-        sheet: 1,
-        line: 2,
-        field: 1,
-        spot: b" 1",
-    },
-    Case {
-        what: "a space after",
-        households: b"weight,lot\n1 ,A\n",
-        links: LINKS,
-        number: 11,
-        sheet: 1,
-        line: 2,
-        field: 1,
-        spot: b"1 ",
-    },
-    Case {
-        what: "a point",
-        households: b"weight,lot\n1.0,A\n",
-        links: LINKS,
-        number: 11,
-        sheet: 1,
-        line: 2,
-        field: 1,
-        spot: b"1.0",
-    },
-    Case {
-        what: "a letter",
-        households: b"weight,lot\nx,A\n",
-        links: LINKS,
-        number: 11,
-        sheet: 1,
-        line: 2,
-        field: 1,
-        spot: b"x",
-    },
-    Case {
-        what: "a letter after a digit",
-        households: b"weight,lot\n1e3,A\n",
-        links: LINKS,
-        number: 11,
-        sheet: 1,
-        line: 2,
-        field: 1,
-        spot: b"1e3",
-    },
-    Case {
-        what: "the byte below 0",
-        households: b"weight,lot\n/,A\n",
-        links: LINKS,
-        number: 11,
-        sheet: 1,
-        line: 2,
-        field: 1,
-        spot: b"/",
-    },
-    Case {
-        what: "the byte above 9",
-        households: b"weight,lot\n:,A\n",
-        links: LINKS,
-        number: 11,
-        sheet: 1,
-        line: 2,
-        field: 1,
-        spot: b":",
-    },
-    Case {
-        what: "the byte below 0 in the middle",
-        households: b"weight,lot\n1/2,A\n",
-        links: LINKS,
-        number: 11,
-        sheet: 1,
-        line: 2,
-        field: 1,
-        spot: b"1/2",
-    },
-    Case {
-        what: "the byte above 9 at the end",
-        households: b"weight,lot\n12:,A\n",
-        links: LINKS,
-        number: 11,
-        sheet: 1,
-        line: 2,
-        field: 1,
-        spot: b"12:",
-    },
-    Case {
-        what: "a zero byte",
-        households: b"weight,lot\n\x00,A\n",
-        links: LINKS,
-        number: 11,
-        sheet: 1,
-        line: 2,
-        field: 1,
-        spot: b"\x00",
-    },
-    Case {
-        what: "byte 255 at the seventh place",
-        households: b"weight,lot\n123456\xff,A\n",
-        links: LINKS,
-        number: 11,
-        sheet: 1,
-        line: 2,
-        field: 1,
-        spot: b"123456\xff",
-    },
-    Case {
-        what: "byte 13",
-        households: b"weight,lot\n1\r,A\n",
-        links: LINKS,
-        number: 11,
-        sheet: 1,
-        line: 2,
-        field: 1,
-        spot: b"1\r",
-    },
-    Case {
-        what: "a lot",
-        households: b"weight,lot\nA,A\n",
-        links: LINKS,
-        number: 11,
-        sheet: 1,
-        line: 2,
-        field: 1,
-        spot: b"A",
-    },
-    Case {
-        what: "on the last line",
-        households: b"weight,lot\n3,A\n2,-\nx,-\n",
-        links: LINKS,
-        number: 11,
-        sheet: 1,
-        line: 4,
-        field: 1,
-        spot: b"x",
-    },
-    Case {
-        what: "weight and lot are empty",
-        households: b"weight,lot\n,\n",
-        links: LINKS,
-        number: 11,
-        sheet: 1,
-        line: 2,
-        field: 1,
-        spot: b"",
-    },
-    Case {
-        what: "weight and lot are wrong",
-        households: b"weight,lot\nx,y\n",
-        links: LINKS,
-        number: 11,
-        sheet: 1,
-        line: 2,
-        field: 1,
-        spot: b"x",
-    },
-    Case {
-        what: "the names again",
-        households: b"weight,lot\nweight,lot\n",
-        links: LINKS,
-        number: 11,
-        sheet: 1,
-        line: 2,
-        field: 1,
-        spot: b"weight",
-    },
-];
-
-const LOTS: &[Case<'static>] = &[
-    Case {
-        what: "no lot",
-        households: b"weight,lot\n3,\n",
-        links: LINKS,
-        number: 11,
-        sheet: 1,
-        line: 2,
-        field: 2,
-        spot: b"",
-    },
-    Case {
-        what: "another letter",
-        households: b"weight,lot\n3,C\n",
-        links: LINKS,
-        number: 11,
-        sheet: 1,
-        line: 2,
-        field: 2,
-        spot: b"C",
-    },
-    Case {
-        what: "the byte below A",
-        households: b"weight,lot\n3,@\n",
-        links: LINKS,
-        number: 11,
-        sheet: 1,
-        line: 2,
-        field: 2,
-        spot: b"@",
-    },
-    Case {
-        what: "a small letter",
-        households: b"weight,lot\n3,a\n",
-        links: LINKS,
-        number: 11,
-        sheet: 1,
-        line: 2,
-        field: 2,
-        spot: b"a",
-    },
-    Case {
-        what: "two letters",
-        households: b"weight,lot\n3,AB\n",
-        links: LINKS,
-        number: 11,
-        sheet: 1,
-        line: 2,
-        field: 2,
-        spot: b"AB",
-    },
-    Case {
-        what: "a letter twice",
-        households: b"weight,lot\n3,AA\n",
-        links: LINKS,
-        number: 11,
-        sheet: 1,
-        line: 2,
-        field: 2,
-        spot: b"AA",
-    },
-    Case {
-        what: "two dashes",
-        households: b"weight,lot\n3,--\n",
-        links: LINKS,
-        number: 11,
-        sheet: 1,
-        line: 2,
-        field: 2,
-        spot: b"--",
-    },
-    Case {
-        what: "a digit",
-        households: b"weight,lot\n3,1\n",
-        links: LINKS,
-        number: 11,
-        sheet: 1,
-        line: 2,
-        field: 2,
-        spot: b"1",
-    },
-    Case {
-        what: "a space before",
-        households: b"weight,lot\n3, A\n",
-        links: LINKS,
-        number: 11,
-        sheet: 1,
-        line: 2,
-        field: 2,
-        spot: b" A",
-    },
-    Case {
-        what: "a space after",
-        households: b"weight,lot\n3,A \n",
-        links: LINKS,
-        number: 11,
-        sheet: 1,
-        line: 2,
-        field: 2,
-        spot: b"A ",
-    },
-    Case {
-        what: "byte 13 before byte 10",
-        households: b"weight,lot\n3,A\r\n",
-        links: LINKS,
-        number: 11,
-        sheet: 1,
-        line: 2,
-        field: 2,
-        spot: b"A\r",
-    },
-    Case {
-        what: "a zero byte",
-        households: b"weight,lot\n3,\x00\n",
-        links: LINKS,
-        number: 11,
-        sheet: 1,
-        line: 2,
-        field: 2,
-        spot: b"\x00",
-    },
-    Case {
-        what: "byte 255",
-        households: b"weight,lot\n3,\xff\n",
-        links: LINKS,
-        number: 11,
-        sheet: 1,
-        line: 2,
-        field: 2,
-        spot: b"\xff",
-    },
-    Case {
-        what: "on the last line",
-        households: b"weight,lot\n3,A\n2,-\n2,C\n",
-        links: LINKS,
-        number: 11,
-        sheet: 1,
-        line: 4,
-        field: 2,
-        spot: b"C",
-    },
-];
-
-const LINK_FIELDS: &[Case<'static>] = &[
-    Case {
-        what: "no first end",
-        households: HOUSEHOLDS,
-        links: b"from,to,strength\n,1,4\n",
-        number: 11,
-        sheet: 2,
-        line: 2,
-        field: 1,
-        spot: b"",
-    },
-    Case {
-        what: "no second end",
-        households: HOUSEHOLDS,
-        links: b"from,to,strength\n0,,4\n",
-        number: 11,
-        sheet: 2,
-        line: 2,
-        field: 2,
-        spot: b"",
-    },
-    Case {
-        what: "no strength",
-        households: HOUSEHOLDS,
-        links: b"from,to,strength\n0,1,\n",
-        number: 11,
-        sheet: 2,
-        line: 2,
-        field: 3,
-        spot: b"",
-    },
-    Case {
-        what: "two commas alone",
-        households: HOUSEHOLDS,
-        links: b"from,to,strength\n,,\n",
-        number: 11,
-        sheet: 2,
-        line: 2,
-        field: 1,
-        spot: b"",
-    },
-    Case {
-        what: "the first end is a letter",
-        households: HOUSEHOLDS,
-        links: b"from,to,strength\nx,1,4\n",
-        number: 11,
-        sheet: 2,
-        line: 2,
-        field: 1,
-        spot: b"x",
-    },
-    Case {
-        what: "the second end is a letter",
-        households: HOUSEHOLDS,
-        links: b"from,to,strength\n0,x,4\n",
-        number: 11,
-        sheet: 2,
-        line: 2,
-        field: 2,
-        spot: b"x",
-    },
-    Case {
-        what: "the strength is a letter",
-        households: HOUSEHOLDS,
-        links: b"from,to,strength\n0,1,x\n",
-        number: 11,
-        sheet: 2,
-        line: 2,
-        field: 3,
-        spot: b"x",
-    },
-    Case {
-        what: "the last two are letters",
-        households: HOUSEHOLDS,
-        links: b"from,to,strength\n0,x,y\n",
-        number: 11,
-        sheet: 2,
-        line: 2,
-        field: 2,
-        spot: b"x",
-    },
-    Case {
-        what: "the first and the last are letters",
-        households: HOUSEHOLDS,
-        links: b"from,to,strength\nx,1,y\n",
-        number: 11,
-        sheet: 2,
-        line: 2,
-        field: 1,
-        spot: b"x",
-    },
-    Case {
-        what: "all are letters",
-        households: HOUSEHOLDS,
-        links: b"from,to,strength\nA,B,-\n",
-        number: 11,
-        sheet: 2,
-        line: 2,
-        field: 1,
-        spot: b"A",
-    },
-    Case {
-        what: "two zeros for the first end",
-        households: HOUSEHOLDS,
-        links: b"from,to,strength\n00,1,4\n",
-        number: 11,
-        sheet: 2,
-        line: 2,
-        field: 1,
-        spot: b"00",
-    },
-    Case {
-        what: "a zero before the second end",
-        households: HOUSEHOLDS,
-        links: b"from,to,strength\n0,01,4\n",
-        number: 11,
-        sheet: 2,
-        line: 2,
-        field: 2,
-        spot: b"01",
-    },
-    Case {
-        what: "a zero before the strength",
-        households: HOUSEHOLDS,
-        links: b"from,to,strength\n0,1,04\n",
-        number: 11,
-        sheet: 2,
-        line: 2,
-        field: 3,
-        spot: b"04",
-    },
-    Case {
-        what: "eight digits for the first end",
-        households: HOUSEHOLDS,
-        links: b"from,to,strength\n10000000,1,4\n",
-        number: 11,
-        sheet: 2,
-        line: 2,
-        field: 1,
-        spot: b"10000000",
-    },
-    Case {
-        what: "eight digits for the second end",
-        households: HOUSEHOLDS,
-        links: b"from,to,strength\n0,10000000,4\n",
-        number: 11,
-        sheet: 2,
-        line: 2,
-        field: 2,
-        spot: b"10000000",
-    },
-    Case {
-        what: "eight digits for the strength",
-        households: HOUSEHOLDS,
-        links: b"from,to,strength\n0,1,10000000\n",
-        number: 11,
-        sheet: 2,
-        line: 2,
-        field: 3,
-        spot: b"10000000",
-    },
-    Case {
-        what: "a minus sign",
-        households: HOUSEHOLDS,
-        links: b"from,to,strength\n0,1,-4\n",
-        number: 11,
-        sheet: 2,
-        line: 2,
-        field: 3,
-        spot: b"-4",
-    },
-    Case {
-        what: "a space",
-        households: HOUSEHOLDS,
-        links: b"from,to,strength\n0, 1,4\n",
-        number: 11,
-        sheet: 2,
-        line: 2,
-        field: 2,
-        spot: b" 1",
-    },
-    Case {
-        what: "byte 13 before byte 10",
-        households: HOUSEHOLDS,
-        links: b"from,to,strength\n0,1,4\r\n",
-        number: 11,
-        sheet: 2,
-        line: 2,
-        field: 3,
-        spot: b"4\r",
-    },
-    Case {
-        what: "first field of the last line",
-        households: HOUSEHOLDS,
-        links: b"from,to,strength\n0,1,4\n1,2,1\nx,3,4\n",
-        number: 11,
-        sheet: 2,
-        line: 4,
-        field: 1,
-        spot: b"x",
-    },
-    Case {
-        what: "last field of the last line",
-        households: HOUSEHOLDS,
-        links: b"from,to,strength\n0,1,4\n1,2,1\n2,3,x\n",
-        number: 11,
-        sheet: 2,
-        line: 4,
-        field: 3,
-        spot: b"x",
-    },
-    Case {
-        what: "the names again",
-        households: HOUSEHOLDS,
-        links: b"from,to,strength\nfrom,to,strength\n",
-        number: 11,
-        sheet: 2,
-        line: 2,
-        field: 1,
-        spot: b"from",
-    },
-];
+const WEIGHTS: &str = "\
+no weight|weight,lot$,A$|=||11,1,2,1
+two zeros|weight,lot$00,A$|=|00|11,1,2,1
+a zero before a digit|weight,lot$01,A$|=|01|11,1,2,1
+a zero before digits|weight,lot$010,A$|=|010|11,1,2,1
+eight digits|weight,lot$12345678,A$|=|12345678|11,1,2,1
+the least of eight digits|weight,lot$10000000,A$|=|10000000|11,1,2,1
+eight zeros|weight,lot$00000000,A$|=|00000000|11,1,2,1
+twenty digits|weight,lot$18446744073709551617,A$|=|18446744073709551617|11,1,2,1
+a minus sign|weight,lot$-1,A$|=|-1|11,1,2,1
+a plus sign|weight,lot$+1,A$|=|+1|11,1,2,1
+a space before|weight,lot$ 1,A$|=| 1|11,1,2,1
+a space after|weight,lot$1 ,A$|=|1 |11,1,2,1
+a point|weight,lot$1.0,A$|=|1.0|11,1,2,1
+a letter|weight,lot$x,A$|=|x|11,1,2,1
+a letter after a digit|weight,lot$1e3,A$|=|1e3|11,1,2,1
+the byte below 0|weight,lot$/,A$|=|/|11,1,2,1
+the byte above 9|weight,lot$:,A$|=|:|11,1,2,1
+the byte below 0 in the middle|weight,lot$1/2,A$|=|1/2|11,1,2,1
+the byte above 9 at the end|weight,lot$12:,A$|=|12:|11,1,2,1
+a zero byte|weight,lot$#,A$|=|#|11,1,2,1
+byte 255 at the seventh place|weight,lot$123456*,A$|=|123456*|11,1,2,1
+byte 13|weight,lot$1^,A$|=|1^|11,1,2,1
+a lot|weight,lot$A,A$|=|A|11,1,2,1
+on the last line|weight,lot$3,A$2,-$x,-$|=|x|11,1,4,1
+weight and lot are empty|weight,lot$,$|=||11,1,2,1
+weight and lot are wrong|weight,lot$x,y$|=|x|11,1,2,1
+the names again|weight,lot$weight,lot$|=|weight|11,1,2,1
+";
 
 #[test]
 fn weight_fields(rt: LibcRuntime) -> Result<(), Fail> {
-    run_cases(rt.alloc(), WEIGHTS)
+    run_cases(rt.alloc(), WEIGHTS, 27)
 }
+
+const LOTS: &str = "\
+no lot|weight,lot$3,$|=||11,1,2,2
+another letter|weight,lot$3,C$|=|C|11,1,2,2
+the byte below A|weight,lot$3,@$|=|@|11,1,2,2
+a small letter|weight,lot$3,a$|=|a|11,1,2,2
+two letters|weight,lot$3,AB$|=|AB|11,1,2,2
+a letter twice|weight,lot$3,AA$|=|AA|11,1,2,2
+two dashes|weight,lot$3,--$|=|--|11,1,2,2
+a digit|weight,lot$3,1$|=|1|11,1,2,2
+a space before|weight,lot$3, A$|=| A|11,1,2,2
+a space after|weight,lot$3,A $|=|A |11,1,2,2
+byte 13 before byte 10|weight,lot$3,A^$|=|A^|11,1,2,2
+a zero byte|weight,lot$3,#$|=|#|11,1,2,2
+byte 255|weight,lot$3,*$|=|*|11,1,2,2
+on the last line|weight,lot$3,A$2,-$2,C$|=|C|11,1,4,2
+";
 
 #[test]
 fn lot_fields(rt: LibcRuntime) -> Result<(), Fail> {
-    run_cases(rt.alloc(), LOTS)
+    run_cases(rt.alloc(), LOTS, 14)
 }
+
+const LINK_FIELDS: &str = "\
+no first end|=|from,to,strength$,1,4$||11,2,2,1
+no second end|=|from,to,strength$0,,4$||11,2,2,2
+no strength|=|from,to,strength$0,1,$||11,2,2,3
+two commas alone|=|from,to,strength$,,$||11,2,2,1
+the first end is a letter|=|from,to,strength$x,1,4$|x|11,2,2,1
+the second end is a letter|=|from,to,strength$0,x,4$|x|11,2,2,2
+the strength is a letter|=|from,to,strength$0,1,x$|x|11,2,2,3
+the last two are letters|=|from,to,strength$0,x,y$|x|11,2,2,2
+the first and the last are letters|=|from,to,strength$x,1,y$|x|11,2,2,1
+all are letters|=|from,to,strength$A,B,-$|A|11,2,2,1
+two zeros for the first end|=|from,to,strength$00,1,4$|00|11,2,2,1
+a zero before the second end|=|from,to,strength$0,01,4$|01|11,2,2,2
+a zero before the strength|=|from,to,strength$0,1,04$|04|11,2,2,3
+eight digits for the first end|=|from,to,strength$10000000,1,4$|10000000|11,2,2,1
+eight digits for the second end|=|from,to,strength$0,10000000,4$|10000000|11,2,2,2
+eight digits for the strength|=|from,to,strength$0,1,10000000$|10000000|11,2,2,3
+a minus sign|=|from,to,strength$0,1,-4$|-4|11,2,2,3
+a space|=|from,to,strength$0, 1,4$| 1|11,2,2,2
+byte 13 before byte 10|=|from,to,strength$0,1,4^$|4^|11,2,2,3
+first field of the last line|=|from,to,strength$0,1,4$1,2,1$x,3,4$|x|11,2,4,1
+last field of the last line|=|from,to,strength$0,1,4$1,2,1$2,3,x$|x|11,2,4,3
+the names again|=|from,to,strength$from,to,strength$|from|11,2,2,1
+";
 
 #[test]
 fn link_fields(rt: LibcRuntime) -> Result<(), Fail> {
-    run_cases(rt.alloc(), LINK_FIELDS)
+    run_cases(rt.alloc(), LINK_FIELDS, 22)
 }

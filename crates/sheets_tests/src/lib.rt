@@ -10,6 +10,8 @@ mod limits;
 #[cfg(test)]
 mod loads;
 #[cfg(test)]
+mod made;
+#[cfg(test)]
 mod names;
 #[cfg(test)]
 mod order;

@@ -1,232 +1,40 @@
 // Records that a parish refuses, one full apart.
-use super::cases::Case;
-use super::cases::HOUSEHOLDS;
-use super::cases::LINKS;
 use super::cases::run_cases;
 use std::test::*;
 
-const LIMITS: &[Case<'static>] = &[
-    Case {
-        what: "a weight above the most on the first line",
-        households: b"weight,lot\n10001,A\n2,-\n",
-        links: LINKS,
-        number: 5,
-        sheet: 1,
-        line: 2,
-        field: 1,
-        spot: b"10001",
-    },
-    Case {
-        what: "a weight above the most on the last line",
-        households: b"weight,lot\n3,A\n2,-\n10001,-\n",
-        links: LINKS,
-        number: 5,
-        sheet: 1,
-        line: 4,
-        field: 1,
-        spot: b"10001",
-    },
-    Case {
-        what: "the least weight of six digits",
-        households: b"weight,lot\n100000,-\n",
-        links: LINKS,
-        number: 5,
-        sheet: 1,
-        line: 2,
-        field: 1,
-        spot: b"100000",
-    },
-    Case {
-        what: "the most of seven digits as a weight",
-        households: b"weight,lot\n9999999,B\n",
-        links: LINKS,
-        number: 5,
-        sheet: 1,
-        line: 2,
-        field: 1,
-        spot: b"9999999",
-    },
-    Case {
-        what: "no strength on the first line",
-        households: HOUSEHOLDS,
-        links: b"from,to,strength\n0,1,0\n1,2,1\n",
-        number: 5,
-        sheet: 2,
-        line: 2,
-        field: 3,
-        spot: b"0",
-    },
-    Case {
-        what: "no strength on the last line",
-        households: HOUSEHOLDS,
-        links: b"from,to,strength\n0,1,4\n1,2,1\n2,3,0\n",
-        number: 5,
-        sheet: 2,
-        line: 4,
-        field: 3,
-        spot: b"0",
-    },
-    Case {
-        what: "a strength above the most on the first line",
-        households: HOUSEHOLDS,
-        links: b"from,to,strength\n0,1,1001\n1,2,1\n",
-        number: 5,
-        sheet: 2,
-        line: 2,
-        field: 3,
-        spot: b"1001",
-    },
-    Case {
-        what: "a strength above the most on the last line",
-        households: HOUSEHOLDS,
-        links: b"from,to,strength\n0,1,4\n1,2,1\n2,3,1001\n",
-        number: 5,
-        sheet: 2,
-        line: 4,
-        field: 3,
-        spot: b"1001",
-    },
-    Case {
-        what: "the most of seven digits as a strength",
-        households: HOUSEHOLDS,
-        links: b"from,to,strength\n0,1,9999999\n",
-        number: 5,
-        sheet: 2,
-        line: 2,
-        field: 3,
-        spot: b"9999999",
-    },
-];
-
-const ENDS: &[Case<'static>] = &[
-    Case {
-        what: "the first end is no household on the first line",
-        households: HOUSEHOLDS,
-        links: b"from,to,strength\n4,1,4\n1,2,1\n",
-        number: 6,
-        sheet: 2,
-        line: 2,
-        field: 1,
-        spot: b"4",
-    },
-    Case {
-        what: "the first end is no household on the last line",
-        households: HOUSEHOLDS,
-        links: b"from,to,strength\n0,1,4\n1,2,1\n4,3,4\n",
-        number: 6,
-        sheet: 2,
-        line: 4,
-        field: 1,
-        spot: b"4",
-    },
-    Case {
-        what: "the second end is no household on the first line",
-        households: HOUSEHOLDS,
-        links: b"from,to,strength\n0,4,4\n1,2,1\n",
-        number: 6,
-        sheet: 2,
-        line: 2,
-        field: 2,
-        spot: b"4",
-    },
-    Case {
-        what: "the second end is no household on the last line",
-        households: HOUSEHOLDS,
-        links: b"from,to,strength\n0,1,4\n1,2,1\n2,4,4\n",
-        number: 6,
-        sheet: 2,
-        line: 4,
-        field: 2,
-        spot: b"4",
-    },
-    Case {
-        what: "neither end is a household",
-        households: HOUSEHOLDS,
-        links: b"from,to,strength\n5,4,4\n",
-        number: 6,
-        sheet: 2,
-        line: 2,
-        field: 1,
-        spot: b"5",
-    },
-    Case {
-        what: "the most of seven digits as the first end",
-        households: HOUSEHOLDS,
-        links: b"from,to,strength\n9999999,1,4\n",
-        number: 6,
-        sheet: 2,
-        line: 2,
-        field: 1,
-        spot: b"9999999",
-    },
-    Case {
-        what: "the most of seven digits as the second end",
-        households: HOUSEHOLDS,
-        links: b"from,to,strength\n0,9999999,4\n",
-        number: 6,
-        sheet: 2,
-        line: 2,
-        field: 2,
-        spot: b"9999999",
-    },
-    Case {
-        what: "a parish of no household",
-        households: b"weight,lot\n",
-        links: b"from,to,strength\n0,1,4\n",
-        number: 6,
-        sheet: 2,
-        line: 2,
-        field: 1,
-        spot: b"0",
-    },
-    Case {
-        what: "a parish of one household",
-        households: b"weight,lot\n3,A\n",
-        links: b"from,to,strength\n0,1,4\n",
-        number: 6,
-        sheet: 2,
-        line: 2,
-        field: 2,
-        spot: b"1",
-    },
-    Case {
-        what: "a link of the first household to itself",
-        households: HOUSEHOLDS,
-        links: b"from,to,strength\n0,0,4\n1,2,1\n",
-        number: 7,
-        sheet: 2,
-        line: 2,
-        field: 2,
-        spot: b"0",
-    },
-    Case {
-        what: "a link of the last household to itself",
-        households: HOUSEHOLDS,
-        links: b"from,to,strength\n0,1,4\n1,2,1\n3,3,4\n",
-        number: 7,
-        sheet: 2,
-        line: 4,
-        field: 2,
-        spot: b"3",
-    },
-    Case {
-        what: "a link to itself in a parish of one household",
-        households: b"weight,lot\n0,-\n",
-        links: b"from,to,strength\n0,0,1\n",
-        number: 7,
-        sheet: 2,
-        line: 2,
-        field: 2,
-        spot: b"0",
-    },
-];
+const LIMITS: &str = "\
+a weight above the most on the first line|weight,lot$10001,A$2,-$|=|10001|5,1,2,1
+a weight above the most on the last line|weight,lot$3,A$2,-$10001,-$|=|10001|5,1,4,1
+the least weight of six digits|weight,lot$100000,-$|=|100000|5,1,2,1
+the most of seven digits as a weight|weight,lot$9999999,B$|=|9999999|5,1,2,1
+no strength on the first line|=|from,to,strength$0,1,0$1,2,1$|0|5,2,2,3
+no strength on the last line|=|from,to,strength$0,1,4$1,2,1$2,3,0$|0|5,2,4,3
+a strength above the most on the first line|=|from,to,strength$0,1,1001$1,2,1$|1001|5,2,2,3
+a strength above the most on the last line|=|from,to,strength$0,1,4$1,2,1$2,3,1001$|1001|5,2,4,3
+the most of seven digits as a strength|=|from,to,strength$0,1,9999999$|9999999|5,2,2,3
+";
 
 #[test]
 fn limits_of_numbers(rt: LibcRuntime) -> Result<(), Fail> {
-    run_cases(rt.alloc(), LIMITS)
+    run_cases(rt.alloc(), LIMITS, 9)
 }
+
+const ENDS: &str = "\
+the first end is no household on the first line|=|from,to,strength$4,1,4$1,2,1$|4|6,2,2,1
+the first end is no household on the last line|=|from,to,strength$0,1,4$1,2,1$4,3,4$|4|6,2,4,1
+the second end is no household on the first line|=|from,to,strength$0,4,4$1,2,1$|4|6,2,2,2
+the second end is no household on the last line|=|from,to,strength$0,1,4$1,2,1$2,4,4$|4|6,2,4,2
+neither end is a household|=|from,to,strength$5,4,4$|5|6,2,2,1
+the most of seven digits as the first end|=|from,to,strength$9999999,1,4$|9999999|6,2,2,1
+the most of seven digits as the second end|=|from,to,strength$0,9999999,4$|9999999|6,2,2,2
+a parish of no household|weight,lot$|from,to,strength$0,1,4$|0|6,2,2,1
+a parish of one household|weight,lot$3,A$|from,to,strength$0,1,4$|1|6,2,2,2
+a link of the first household to itself|=|from,to,strength$0,0,4$1,2,1$|0|7,2,2,2
+a link of the last household to itself|=|from,to,strength$0,1,4$1,2,1$3,3,4$|3|7,2,4,2
+a link to itself in a parish of one household|weight,lot$0,-$|from,to,strength$0,0,1$|0|7,2,2,2
+";
 
 #[test]
 fn ends_of_links(rt: LibcRuntime) -> Result<(), Fail> {
-    run_cases(rt.alloc(), ENDS)
+    run_cases(rt.alloc(), ENDS, 12)
 }

@@ -1,342 +1,51 @@
 // The names line of each sheet.
-use super::cases::Case;
-use super::cases::HOUSEHOLDS;
-use super::cases::LINKS;
 use super::cases::run_cases;
 use std::test::*;
 
-const HOUSEHOLDS_NAMES: &[Case<'static>] = &[
-    Case {
-        what: "empty",
-        households: b"",
-        links: LINKS,
-        number: 9,
-        sheet: 1,
-        line: 1,
-        field: 0,
-        spot: b"",
-    },
-    Case {
-        what: "no byte 10",
-        households: b"weight,lot",
-        links: LINKS,
-        number: 9,
-        sheet: 1,
-        line: 1,
-        field: 0,
-        spot: b"weight,lot",
-    },
-    Case {
-        what: "byte 10 alone",
-        households: b"\n",
-        links: LINKS,
-        number: 9,
-        sheet: 1,
-        line: 1,
-        field: 0,
-        spot: b"",
-    },
-    Case {
-        what: "an empty line before the names",
-        households: b"\nweight,lot\n3,A\n",
-        links: LINKS,
-        number: 9,
-        sheet: 1,
-        line: 1,
-        field: 0,
-        spot: b"",
-    },
-    Case {
-        what: "no names",
-        households: b"3,A\n2,-\n",
-        links: LINKS,
-        number: 9,
-        sheet: 1,
-        line: 1,
-        field: 0,
-        spot: b"3,A",
-    },
-    Case {
-        what: "the names of the other sheet",
-        households: LINKS,
-        links: LINKS,
-        number: 9,
-        sheet: 1,
-        line: 1,
-        field: 0,
-        spot: b"from,to,strength",
-    },
-    Case {
-        what: "names in the other order",
-        households: b"lot,weight\nA,3\n",
-        links: LINKS,
-        number: 9,
-        sheet: 1,
-        line: 1,
-        field: 0,
-        spot: b"lot,weight",
-    },
-    Case {
-        what: "first letter",
-        households: b"Weight,lot\n3,A\n",
-        links: LINKS,
-        number: 9,
-        sheet: 1,
-        line: 1,
-        field: 0,
-        spot: b"Weight,lot",
-    },
-    Case {
-        what: "last letter",
-        households: b"weight,lou\n3,A\n",
-        links: LINKS,
-        number: 9,
-        sheet: 1,
-        line: 1,
-        field: 0,
-        spot: b"weight,lou",
-    },
-    Case {
-        what: "a letter too few",
-        households: b"weight,lo\n3,A\n",
-        links: LINKS,
-        number: 9,
-        sheet: 1,
-        line: 1,
-        field: 0,
-        spot: b"weight,lo",
-    },
-    Case {
-        what: "a letter too many",
-        households: b"weight,lots\n3,A\n",
-        links: LINKS,
-        number: 9,
-        sheet: 1,
-        line: 1,
-        field: 0,
-        spot: b"weight,lots",
-    },
-    Case {
-        what: "a third name",
-        households: b"weight,lot,\n3,A\n",
-        links: LINKS,
-        number: 9,
-        sheet: 1,
-        line: 1,
-        field: 0,
-        spot: b"weight,lot,",
-    },
-    Case {
-        what: "one name",
-        households: b"weight\n3,A\n",
-        links: LINKS,
-        number: 9,
-        sheet: 1,
-        line: 1,
-        field: 0,
-        spot: b"weight",
-    },
-    Case {
-        what: "a space",
-        households: b"weight, lot\n3,A\n",
-        links: LINKS,
-        number: 9,
-        sheet: 1,
-        line: 1,
-        field: 0,
-        spot: b"weight, lot",
-    },
-    Case {
-        what: "byte 13 before byte 10",
-        households: b"weight,lot\r\n3,A\r\n",
-        links: LINKS,
-        number: 9,
-        sheet: 1,
-        line: 1,
-        field: 0,
-        spot: b"weight,lot\r",
-    },
-    Case {
-        what: "byte 13 for byte 10",
-        households: b"weight,lot\r3,A\r",
-        links: LINKS,
-        number: 9,
-        sheet: 1,
-        line: 1,
-        field: 0,
-        spot: b"weight,lot\r3,A\r",
-    },
-    Case {
-        what: "a mark of the byte order",
-        households: b"\xef\xbb\xbfweight,lot\n3,A\n",
-        links: LINKS,
-        number: 9,
-        sheet: 1,
-        line: 1,
-        field: 0,
-        spot: b"\xef\xbb\xbfweight,lot",
-    },
-    Case {
-        what: "a zero byte",
-        households: b"weight,lot\x00\n3,A\n",
-        links: LINKS,
-        number: 9,
-        sheet: 1,
-        line: 1,
-        field: 0,
-        spot: b"weight,lot\x00",
-    },
-];
-
-const LINKS_NAMES: &[Case<'static>] = &[
-    Case {
-        what: "empty",
-        households: HOUSEHOLDS,
-        links: b"",
-        number: 9,
-        sheet: 2,
-        line: 1,
-        field: 0,
-        spot: b"",
-    },
-    Case {
-        what: "no byte 10",
-        households: HOUSEHOLDS,
-        links: b"from,to,strength",
-        number: 9,
-        sheet: 2,
-        line: 1,
-        field: 0,
-        spot: b"from,to,strength",
-    },
-    Case {
-        what: "byte 10 alone",
-        households: HOUSEHOLDS,
-        links: b"\n",
-        number: 9,
-        sheet: 2,
-        line: 1,
-        field: 0,
-        spot: b"",
-    },
-    Case {
-        what: "an empty line before the names",
-        households: HOUSEHOLDS,
-        links: b"\nfrom,to,strength\n0,1,4\n",
-        number: 9,
-        sheet: 2,
-        line: 1,
-        field: 0,
-        spot: b"",
-    },
-    Case {
-        what: "no names",
-        households: HOUSEHOLDS,
-        links: b"0,1,4\n",
-        number: 9,
-        sheet: 2,
-        line: 1,
-        field: 0,
-        spot: b"0,1,4",
-    },
-    Case {
-        what: "the names of the other sheet",
-        households: HOUSEHOLDS,
-        links: HOUSEHOLDS,
-        number: 9,
-        sheet: 2,
-        line: 1,
-        field: 0,
-        spot: b"weight,lot",
-    },
-    Case {
-        what: "names in another order",
-        households: HOUSEHOLDS,
-        links: b"to,from,strength\n0,1,4\n",
-        number: 9,
-        sheet: 2,
-        line: 1,
-        field: 0,
-        spot: b"to,from,strength",
-    },
-    Case {
-        what: "first letter",
-        households: HOUSEHOLDS,
-        links: b"From,to,strength\n0,1,4\n",
-        number: 9,
-        sheet: 2,
-        line: 1,
-        field: 0,
-        spot: b"From,to,strength",
-    },
-    Case {
-        what: "last letter",
-        households: HOUSEHOLDS,
-        links: b"from,to,strengtH\n0,1,4\n",
-        number: 9,
-        sheet: 2,
-        line: 1,
-        field: 0,
-        spot: b"from,to,strengtH",
-    },
-    Case {
-        what: "a letter too few",
-        households: HOUSEHOLDS,
-        links: b"from,to,strengt\n0,1,4\n",
-        number: 9,
-        sheet: 2,
-        line: 1,
-        field: 0,
-        spot: b"from,to,strengt",
-    },
-    Case {
-        what: "a letter too many",
-        households: HOUSEHOLDS,
-        links: b"from,to,strengths\n0,1,4\n",
-        number: 9,
-        sheet: 2,
-        line: 1,
-        field: 0,
-        spot: b"from,to,strengths",
-    },
-    Case {
-        what: "a fourth name",
-        households: HOUSEHOLDS,
-        links: b"from,to,strength,\n0,1,4\n",
-        number: 9,
-        sheet: 2,
-        line: 1,
-        field: 0,
-        spot: b"from,to,strength,",
-    },
-    Case {
-        what: "two names",
-        households: HOUSEHOLDS,
-        links: b"from,to\n0,1\n",
-        number: 9,
-        sheet: 2,
-        line: 1,
-        field: 0,
-        spot: b"from,to",
-    },
-    Case {
-        what: "byte 13 before byte 10",
-        households: HOUSEHOLDS,
-        links: b"from,to,strength\r\n0,1,4\r\n",
-        number: 9,
-        sheet: 2,
-        line: 1,
-        field: 0,
-        spot: b"from,to,strength\r",
-    },
-];
+const HOUSEHOLDS_NAMES: &str = "\
+empty||=||9,1,1,0
+no byte 10|weight,lot|=|weight,lot|9,1,1,0
+byte 10 alone|$|=||9,1,1,0
+an empty line before the names|$weight,lot$3,A$|=||9,1,1,0
+no names|3,A$2,-$|=|3,A|9,1,1,0
+the names of the other sheet|from,to,strength$0,1,4$1,2,1$2,3,4$0,3,1$|=|from,to,strength|9,1,1,0
+names in the other order|lot,weight$A,3$|=|lot,weight|9,1,1,0
+first letter|Weight,lot$3,A$|=|Weight,lot|9,1,1,0
+last letter|weight,lou$3,A$|=|weight,lou|9,1,1,0
+a letter too few|weight,lo$3,A$|=|weight,lo|9,1,1,0
+a letter too many|weight,lots$3,A$|=|weight,lots|9,1,1,0
+a third name|weight,lot,$3,A$|=|weight,lot,|9,1,1,0
+one name|weight$3,A$|=|weight|9,1,1,0
+a space|weight, lot$3,A$|=|weight, lot|9,1,1,0
+byte 13 before byte 10|weight,lot^$3,A^$|=|weight,lot^|9,1,1,0
+byte 13 for byte 10|weight,lot^3,A^|=|weight,lot^3,A^|9,1,1,0
+a mark of the byte order|\u{feff}weight,lot$3,A$|=|\u{feff}weight,lot|9,1,1,0
+a zero byte|weight,lot#$3,A$|=|weight,lot#|9,1,1,0
+";
 
 #[test]
 fn names_of_households(rt: LibcRuntime) -> Result<(), Fail> {
-    run_cases(rt.alloc(), HOUSEHOLDS_NAMES)
+    run_cases(rt.alloc(), HOUSEHOLDS_NAMES, 18)
 }
+
+const LINKS_NAMES: &str = "\
+empty|=|||9,2,1,0
+no byte 10|=|from,to,strength|from,to,strength|9,2,1,0
+byte 10 alone|=|$||9,2,1,0
+an empty line before the names|=|$from,to,strength$0,1,4$||9,2,1,0
+no names|=|0,1,4$|0,1,4|9,2,1,0
+the names of the other sheet|=|weight,lot$3,A$2,-$2,-$3,-$|weight,lot|9,2,1,0
+names in another order|=|to,from,strength$0,1,4$|to,from,strength|9,2,1,0
+first letter|=|From,to,strength$0,1,4$|From,to,strength|9,2,1,0
+last letter|=|from,to,strengtH$0,1,4$|from,to,strengtH|9,2,1,0
+a letter too few|=|from,to,strengt$0,1,4$|from,to,strengt|9,2,1,0
+a letter too many|=|from,to,strengths$0,1,4$|from,to,strengths|9,2,1,0
+a fourth name|=|from,to,strength,$0,1,4$|from,to,strength,|9,2,1,0
+two names|=|from,to$0,1$|from,to|9,2,1,0
+byte 13 before byte 10|=|from,to,strength^$0,1,4^$|from,to,strength^|9,2,1,0
+";
 
 #[test]
 fn names_of_links(rt: LibcRuntime) -> Result<(), Fail> {
-    run_cases(rt.alloc(), LINKS_NAMES)
+    run_cases(rt.alloc(), LINKS_NAMES, 14)
 }

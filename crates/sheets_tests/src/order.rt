@@ -1,304 +1,40 @@
 // Two faults at once: the first by the order of the tests is given.
-use super::cases::Case;
-use super::cases::HOUSEHOLDS;
-use super::cases::LINKS;
 use super::cases::run_cases;
 use std::test::*;
 
-const ORDER: &[Case<'static>] = &[
-    Case {
-        what: "a wrong count before a wrong number",
-        households: b"weight,lot\nx,A,1\n",
-        links: LINKS,
-        number: 10,
-        sheet: 1,
-        line: 2,
-        field: 0,
-        spot: b"x,A,1",
-    },
-    Case {
-        what: "a wrong count before a weight above the most",
-        households: b"weight,lot\n10001\n",
-        links: LINKS,
-        number: 10,
-        sheet: 1,
-        line: 2,
-        field: 0,
-        spot: b"10001",
-    },
-    Case {
-        what: "no byte 10 before a wrong number",
-        households: b"weight,lot\nx,A",
-        links: LINKS,
-        number: 10,
-        sheet: 1,
-        line: 2,
-        field: 0,
-        spot: b"x,A",
-    },
-    Case {
-        what: "no byte 10 before a weight above the most",
-        households: b"weight,lot\n10001,A",
-        links: LINKS,
-        number: 10,
-        sheet: 1,
-        line: 2,
-        field: 0,
-        spot: b"10001,A",
-    },
-    Case {
-        what: "a wrong lot before a weight above the most",
-        households: b"weight,lot\n10001,C\n",
-        links: LINKS,
-        number: 11,
-        sheet: 1,
-        line: 2,
-        field: 2,
-        spot: b"C",
-    },
-    Case {
-        what: "a wrong number before a wrong lot",
-        households: b"weight,lot\n01,C\n",
-        links: LINKS,
-        number: 11,
-        sheet: 1,
-        line: 2,
-        field: 1,
-        spot: b"01",
-    },
-    Case {
-        what: "the first of two lines, by its weight",
-        households: b"weight,lot\n10001,A\nx\n",
-        links: LINKS,
-        number: 5,
-        sheet: 1,
-        line: 2,
-        field: 1,
-        spot: b"10001",
-    },
-    Case {
-        what: "the first of two lines, by its count",
-        households: b"weight,lot\n3,A\n3\n10001,A\n",
-        links: LINKS,
-        number: 10,
-        sheet: 1,
-        line: 3,
-        field: 0,
-        spot: b"3",
-    },
-    Case {
-        what: "the first of two lines, by its lot",
-        households: b"weight,lot\n3,C\n\n",
-        links: LINKS,
-        number: 11,
-        sheet: 1,
-        line: 2,
-        field: 2,
-        spot: b"C",
-    },
-    Case {
-        what: "the names before a value line",
-        households: b"Weight,lot\n10001,C\n",
-        links: LINKS,
-        number: 9,
-        sheet: 1,
-        line: 1,
-        field: 0,
-        spot: b"Weight,lot",
-    },
-    Case {
-        what: "a wrong count before a wrong number",
-        households: HOUSEHOLDS,
-        links: b"from,to,strength\nx,1\n",
-        number: 10,
-        sheet: 2,
-        line: 2,
-        field: 0,
-        spot: b"x,1",
-    },
-    Case {
-        what: "a wrong count before a link to itself",
-        households: HOUSEHOLDS,
-        links: b"from,to,strength\n0,0\n",
-        number: 10,
-        sheet: 2,
-        line: 2,
-        field: 0,
-        spot: b"0,0",
-    },
-    Case {
-        what: "no byte 10 before no such household",
-        households: HOUSEHOLDS,
-        links: b"from,to,strength\n9,9,9",
-        number: 10,
-        sheet: 2,
-        line: 2,
-        field: 0,
-        spot: b"9,9,9",
-    },
-    Case {
-        what: "a wrong number before a strength outside its limits",
-        households: HOUSEHOLDS,
-        links: b"from,to,strength\n0,x,1001\n",
-        number: 11,
-        sheet: 2,
-        line: 2,
-        field: 2,
-        spot: b"x",
-    },
-    Case {
-        what: "a wrong number before no such household",
-        households: HOUSEHOLDS,
-        links: b"from,to,strength\n9,1,x\n",
-        number: 11,
-        sheet: 2,
-        line: 2,
-        field: 3,
-        spot: b"x",
-    },
-    Case {
-        what: "a wrong number before a link to itself",
-        households: HOUSEHOLDS,
-        links: b"from,to,strength\n0,0,x\n",
-        number: 11,
-        sheet: 2,
-        line: 2,
-        field: 3,
-        spot: b"x",
-    },
-    Case {
-        what: "a strength of 0 before no such household",
-        households: HOUSEHOLDS,
-        links: b"from,to,strength\n4,1,0\n",
-        number: 5,
-        sheet: 2,
-        line: 2,
-        field: 3,
-        spot: b"0",
-    },
-    Case {
-        what: "a strength above the most before no such household",
-        households: HOUSEHOLDS,
-        links: b"from,to,strength\n0,4,1001\n",
-        number: 5,
-        sheet: 2,
-        line: 2,
-        field: 3,
-        spot: b"1001",
-    },
-    Case {
-        what: "a strength above the most before a link to itself",
-        households: HOUSEHOLDS,
-        links: b"from,to,strength\n0,0,1001\n",
-        number: 5,
-        sheet: 2,
-        line: 2,
-        field: 3,
-        spot: b"1001",
-    },
-    Case {
-        what: "no such household before a link to itself",
-        households: HOUSEHOLDS,
-        links: b"from,to,strength\n4,4,1\n",
-        number: 6,
-        sheet: 2,
-        line: 2,
-        field: 1,
-        spot: b"4",
-    },
-    Case {
-        what: "the leftmost end that is no household",
-        households: HOUSEHOLDS,
-        links: b"from,to,strength\n4,9,1\n",
-        number: 6,
-        sheet: 2,
-        line: 2,
-        field: 1,
-        spot: b"4",
-    },
-    Case {
-        what: "the first of two lines",
-        households: HOUSEHOLDS,
-        links: b"from,to,strength\n0,1,4\n3,3,1\n0,1\n",
-        number: 7,
-        sheet: 2,
-        line: 3,
-        field: 2,
-        spot: b"3",
-    },
-    Case {
-        what: "the names before a value line",
-        households: HOUSEHOLDS,
-        links: b"from;to;strength\n0,1,4\n",
-        number: 9,
-        sheet: 2,
-        line: 1,
-        field: 0,
-        spot: b"from;to;strength",
-    },
-    Case {
-        what: "a household before the names of links",
-        households: b"weight,lot\n3,A\n2,C\n",
-        links: b"",
-        number: 11,
-        sheet: 1,
-        line: 3,
-        field: 2,
-        spot: b"C",
-    },
-    Case {
-        what: "a household before a link",
-        households: b"weight,lot\n3,A\n2,-\n10001,-\n",
-        links: b"from,to,strength\nx\n",
-        number: 5,
-        sheet: 1,
-        line: 4,
-        field: 1,
-        spot: b"10001",
-    },
-    Case {
-        what: "no byte 10 after the households before an empty links sheet",
-        households: b"weight,lot\n3,A\n2,-",
-        links: b"",
-        number: 10,
-        sheet: 1,
-        line: 3,
-        field: 0,
-        spot: b"2,-",
-    },
-    Case {
-        what: "the names of households before those of links",
-        households: b"weight\n",
-        links: b"from\n",
-        number: 9,
-        sheet: 1,
-        line: 1,
-        field: 0,
-        spot: b"weight",
-    },
-    Case {
-        what: "both sheets empty",
-        households: b"",
-        links: b"",
-        number: 9,
-        sheet: 1,
-        line: 1,
-        field: 0,
-        spot: b"",
-    },
-    Case {
-        what: "sheets in the other order",
-        households: LINKS,
-        links: HOUSEHOLDS,
-        number: 9,
-        sheet: 1,
-        line: 1,
-        field: 0,
-        spot: b"from,to,strength",
-    },
-];
+const ORDER: &str = "\
+a wrong count before a wrong number|weight,lot$x,A,1$|=|x,A,1|10,1,2,0
+a wrong count before a weight above the most|weight,lot$10001$|=|10001|10,1,2,0
+no byte 10 before a wrong number|weight,lot$x,A|=|x,A|10,1,2,0
+no byte 10 before a weight above the most|weight,lot$10001,A|=|10001,A|10,1,2,0
+a wrong lot before a weight above the most|weight,lot$10001,C$|=|C|11,1,2,2
+a wrong number before a wrong lot|weight,lot$01,C$|=|01|11,1,2,1
+the first of two lines, by its weight|weight,lot$10001,A$x$|=|10001|5,1,2,1
+the first of two lines, by its count|weight,lot$3,A$3$10001,A$|=|3|10,1,3,0
+the first of two lines, by its lot|weight,lot$3,C$$|=|C|11,1,2,2
+the names before a value line|Weight,lot$10001,C$|=|Weight,lot|9,1,1,0
+a wrong count before a wrong number|=|from,to,strength$x,1$|x,1|10,2,2,0
+a wrong count before a link to itself|=|from,to,strength$0,0$|0,0|10,2,2,0
+no byte 10 before no such household|=|from,to,strength$9,9,9|9,9,9|10,2,2,0
+a wrong number before a strength outside its limits|=|from,to,strength$0,x,1001$|x|11,2,2,2
+a wrong number before no such household|=|from,to,strength$9,1,x$|x|11,2,2,3
+a wrong number before a link to itself|=|from,to,strength$0,0,x$|x|11,2,2,3
+a strength of 0 before no such household|=|from,to,strength$4,1,0$|0|5,2,2,3
+a strength above the most before no such household|=|from,to,strength$0,4,1001$|1001|5,2,2,3
+a strength above the most before a link to itself|=|from,to,strength$0,0,1001$|1001|5,2,2,3
+no such household before a link to itself|=|from,to,strength$4,4,1$|4|6,2,2,1
+the leftmost end that is no household|=|from,to,strength$4,9,1$|4|6,2,2,1
+the first of two lines|=|from,to,strength$0,1,4$3,3,1$0,1$|3|7,2,3,2
+the names before a value line|=|from;to;strength$0,1,4$|from;to;strength|9,2,1,0
+a household before the names of links|weight,lot$3,A$2,C$||C|11,1,3,2
+a household before a link|weight,lot$3,A$2,-$10001,-$|from,to,strength$x$|10001|5,1,4,1
+no byte 10 after the households before an empty links sheet|weight,lot$3,A$2,-||2,-|10,1,3,0
+the names of households before those of links|weight$|from$|weight|9,1,1,0
+both sheets empty||||9,1,1,0
+sheets in the other order|from,to,strength$0,1,4$1,2,1$2,3,4$0,3,1$|weight,lot$3,A$2,-$2,-$3,-$|from,to,strength|9,1,1,0
+";
 
 #[test]
 fn order_of_tests(rt: LibcRuntime) -> Result<(), Fail> {
-    run_cases(rt.alloc(), ORDER)
+    run_cases(rt.alloc(), ORDER, 29)
 }
