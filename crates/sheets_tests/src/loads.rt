@@ -30,14 +30,17 @@ fn caps(rt: LibcRuntime) -> Result<(), Fail> {
 
 // The worked parish weighs 10.
 fn check_caps(parish: &Parish) -> Result<(), Fail> {
-    check_eq(parish.total_weight(), 10)?;
-    check_eq(parish.weight_cap(0), Ok(5))?;
-    check_eq(parish.weight_cap(50), Ok(5))?;
-    check_eq(parish.weight_cap(199), Ok(5))?;
-    check_eq(parish.weight_cap(200), Ok(6))?;
-    check_eq(parish.weight_cap(1_000), Ok(10))?;
-    check_eq(parish.weight_cap(1_001), Err(Refusal::OutsideLimits))?;
-    check_eq(parish.weight_cap(u32::MAX), Err(Refusal::OutsideLimits))
+    let caps = [
+        parish.weight_cap(0),
+        parish.weight_cap(50),
+        parish.weight_cap(199),
+        parish.weight_cap(200),
+        parish.weight_cap(1_000),
+        parish.weight_cap(1_001),
+        parish.weight_cap(u32::MAX),
+    ];
+    let outside = Err(Refusal::OutsideLimits);
+    check_eq(caps, [Ok(5), Ok(5), Ok(5), Ok(6), Ok(10), outside, outside])
 }
 
 const LOADS: &str = "\
