@@ -6,6 +6,8 @@ mod counts;
 #[cfg(test)]
 mod fields;
 #[cfg(test)]
+mod lent;
+#[cfg(test)]
 mod limits;
 #[cfg(test)]
 mod loads;
