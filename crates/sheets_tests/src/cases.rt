@@ -41,7 +41,7 @@ struct Case<'a> {
 }
 
 // Runs each case of a table in turn, from the worked parish on. The table has `count` of them.
-pub fn run_cases(heap: Global, table: &str, count: usize) -> Result<(), Fail> {
+pub(super) fn run_cases(heap: Global, table: &str, count: usize) -> Result<(), Fail> {
     let mut parish = Parish::new(heap)?;
     let mut spare = Parish::new(heap)?;
     sheets::read(&mut parish, &mut spare, HOUSEHOLDS, LINKS)?;

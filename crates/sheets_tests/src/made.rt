@@ -8,7 +8,7 @@ use faults::Sheet;
 use parish::Refusal;
 
 // The four numbers of a text, 0 for what is none.
-pub fn numbers_of(told: &str) -> [usize; 4] {
+pub(super) fn numbers_of(told: &str) -> [usize; 4] {
     let mut numbers = [0; 4];
     let mut count: usize = 0;
     for part in told.split(',') {
@@ -20,7 +20,7 @@ pub fn numbers_of(told: &str) -> [usize; 4] {
     numbers
 }
 
-pub fn made_fault(kind: &str, numbers: [usize; 4]) -> Option<LoadFault> {
+pub(super) fn made_fault(kind: &str, numbers: [usize; 4]) -> Option<LoadFault> {
     let refusal = refusal_of(numbers[0]);
     let sheet = if numbers[1] == 1 {
         Sheet::Households

@@ -6,7 +6,7 @@ use mathlib.Core.List.{List, [], _∷_, _++_}
 use mathlib.Core.Logic.{_⊎_, inl, inr, ⊎-elim}
 use Prim.Native.Nat.{ℕ, zero, suc, _+_, _<_, _≤_}
 use native.Mathlib.Omega.{arith}
-use borrow.Author.Tests.{eq-eqb, eqb-true, eqb-false, clash}
+use borrow.Author.Tests.{eq-eqb, ne-eqb, eqb-true, eqb-false, clash}
 use lib.Dec.{eqb}
 use lib.ListN.{length, getD}
 use Rattle.std.proofs.shelf.Elements.{all-append}
@@ -18,6 +18,7 @@ use Rattle.std.specs.declared.option.Option.{Option}
 use Rattle.std.specs.declared.option.Option.the-variants.{Some, None}
 use Rattle.std.specs.declared.result.Result.{Result}
 use Rattle.std.specs.declared.result.Result.the-variants.{Ok, Err}
+use Rattle.parish.specs.declared.refusals.Refusal.{Refusal}
 use Rattle.parish.specs.Edits.{answer-by}
 use Rattle.parish.specs.Model.{Model, Sound}
 use Rattle.faults.specs.declared.LineFault.{LineFault}
@@ -28,10 +29,10 @@ use Rattle.faults.specs.declared.ParishFault.{ParishFault}
 use Rattle.faults.specs.declared.Place.{Place}
 use Rattle.spelling.specs.Fields.{same}
 use Rattle.spelling.specs.Kinds.{Kind}
-use Rattle.spelling.specs.Laws.{line-of, sheet-of, never, Plain, Wanted, Line-fails, unended, miscounted, unwanted, refused, Sheet-fails, misnamed, bad-line}
-use Rattle.spelling.specs.Lines.{and-then, raised, first-unwanted, line-fault, place-of, spelt, accepted, line-read, tail-read, lines-read, all-read, sheet-read}
+use Rattle.spelling.specs.Laws.{line-of, sheet-of, never, Plain, Opens, Line-fails, unended, miscounted, unwanted, refused, Sheet-fails, misnamed, bad-line}
+use Rattle.spelling.specs.Lines.{and-then, raised, first-unwanted, line-fault, place-of, spelt, spelt-by, accepted, line-read, tail-read, lines-read, all-read, sheet-read}
 use Rattle.spelling.specs.Pieces.{pieces, glued, Lacks}
-use Rattle.spelling.proofs.Cutting.{pieces-some, pieces-lack, pieces-free, pieces-at, pieces-glued, glued-pieces}
+use Rattle.spelling.proofs.Cutting.{pieces-some, pieces-lack, pieces-free, pieces-at, pieces-glued, pieces-whole, glued-pieces}
 use Rattle.spelling.proofs.Digits.{same-true, same-self, same-decides, differ}
 
 -- what a kind of sheet has to keep
@@ -108,6 +109,42 @@ unwanted-first n (w ∷ ws) (f ∷ fs) i e =
       | false ↦ λ here more.
           (zero, let z : n ≡ i = cc in omega arith, omega arith, λ j lt. absurd (let z : ⊥ = omega arith in z), λ yes. clash (sym here ∙ yes))
     ] refl e
+
+-- where no field is found, each is as wanted
+none-wanted : (n : ℕ) (ws : List (List ℕ → Bool)) (fs : List (List ℕ)) → length fs ≡ length ws → first-unwanted n ws fs ≡ None
+    → (j : ℕ) → j < length fs → getD ws j never (getD fs j []) ≡ true
+none-wanted n ws [] l e j lt = absurd (let z : ⊥ = omega arith in z)
+none-wanted n [] (f ∷ fs) l e j lt = absurd (let z : ⊥ = omega arith in z)
+none-wanted n (w ∷ ws) (f ∷ fs) l e j lt =
+    elim (w f) as (λ t. w f ≡ t → cond t (first-unwanted (n + 1) ws fs) (Some n) ≡ None → getD (w ∷ ws) j never (getD (f ∷ fs) j []) ≡ true) [
+      | true ↦ λ here more. wanted-more w ws f fs (length fs) here (none-wanted (n + 1) ws fs (omega arith) more) j lt
+      | false ↦ λ here more. absurd (let z : _≡_ {A = ℕ} 0 1 = cc in let v : ⊥ = omega arith in v)
+    ] refl e
+
+-- and where each is as wanted, no field is found
+wanted-none : (n : ℕ) (ws : List (List ℕ → Bool)) (fs : List (List ℕ)) → length fs ≡ length ws
+    → ((j : ℕ) → j < length fs → getD ws j never (getD fs j []) ≡ true) → first-unwanted n ws fs ≡ None
+wanted-none n [] fs l all = refl
+wanted-none n (w ∷ ws) [] l all = refl
+wanted-none n (w ∷ ws) (f ∷ fs) l all =
+    ap (λ t. cond t (first-unwanted (n + 1) ws fs) (Some n)) (all zero (omega arith))
+    ∙ wanted-none (n + 1) ws fs (omega arith) (λ j lt. all (suc j) (omega arith))
+
+-- the first field that is not as wanted is the one found
+first-found : (n : ℕ) (ws : List (List ℕ → Bool)) (fs : List (List ℕ)) (k : ℕ) → length fs ≡ length ws → k < length fs
+    → ((j : ℕ) → j < k → getD ws j never (getD fs j []) ≡ true) → (getD ws k never (getD fs k []) ≡ true → ⊥)
+    → first-unwanted n ws fs ≡ Some (n + k)
+first-found n ws [] k l lt all bad = absurd (let z : ⊥ = omega arith in z)
+first-found n [] (f ∷ fs) k l lt all bad = absurd (let z : ⊥ = omega arith in z)
+first-found n (w ∷ ws) (f ∷ fs) zero l lt all bad =
+    elim (w f) as (λ t. w f ≡ t → cond t (first-unwanted (n + 1) ws fs) (Some n) ≡ Some (n + zero)) [
+      | true ↦ λ here. absurd (bad here)
+      | false ↦ λ here. ap Some (let z : n ≡ n + zero = omega arith in z)
+    ] refl
+first-found n (w ∷ ws) (f ∷ fs) (suc k) l lt all bad =
+    ap (λ t. cond t (first-unwanted (n + 1) ws fs) (Some n)) (all zero (omega arith))
+    ∙ first-found (n + 1) ws fs k (omega arith) (omega arith) (λ j below. all (suc j) (omega arith)) bad
+    ∙ ap Some (let z : n + 1 + k ≡ n + suc k = omega arith in z)
 
 module _ (ws : List (List ℕ → Bool)) (p : Place) (fs : List (List ℕ)) where
   fault-none : line-fault ws p fs ≡ None → (length fs ≡ length ws) × (first-unwanted 1 ws fs ≡ None)
@@ -241,41 +278,47 @@ module _ {R : Type 0} (K : Kind R) (lawful : Lawful-kind K) where
       let good : line-fault (K .wanted) p (K .fields r) ≡ None = none-fault (K .wanted) p (K .fields r) (ways .0) (ways .1) in
       simp (fs, good, ways .2, taken)
 
-  front : (fs : List (List ℕ)) (line more : List ℕ) → glued 44 fs ≡ line → line ++ (10 ∷ more) ≡ line-of fs ++ more
-  front fs line more e = ap (λ l. l ++ (10 ∷ more)) (sym e) ∙ sym (append-assoc (glued 44 fs) (10 ∷ []) more)
+  -- a line between its start and byte 10, by its fields
+  opens : (line more : List ℕ) → Lacks 10 line → Opens (line ++ (10 ∷ more)) (pieces 44 line)
+  opens line more ended =
+      let fs = pieces 44 line in
+      record {
+        more = more;
+        whole = ap (λ l. l ++ (10 ∷ more)) (sym (glued-pieces 44 line)) ∙ sym (append-assoc (glued 44 fs) (10 ∷ []) more);
+        some = pieces-some 44 line;
+        plain = plain-from fs (pieces-lack 44 line) (pieces-free 44 10 line ended);
+      }
 
   -- a line that is not read fails by its first test
   line-err : (p : Place) (m : Model) (line more : List ℕ) (f : LoadFault) → Lacks 10 line → line-read K p m line ≡ Err f
       → Line-fails K m p (line ++ (10 ∷ more)) f
   line-err p m line more f ended e =
       let fs = pieces 44 line in
-      let whole = front fs line more (glued-pieces 44 line) in
-      let plain = plain-from fs (pieces-lack 44 line) (pieces-free 44 10 line ended) in
+      let at-front = opens line more ended in
       ⊎-elim
       (λ bad.
       let up = raised-err Line (spelt K p line) f bad in
       subst (Line-fails K m p (line ++ (10 ∷ more))) (sym (up .2))
       (⊎-elim
-      (λ w. subst (λ d. Line-fails K m p (line ++ (10 ∷ more)) (Line d)) (sym (w .1)) (miscounted fs more whole plain (w .0)))
+      (λ w. subst (λ d. Line-fails K m p (line ++ (10 ∷ more)) (Line d)) (sym (w .1)) (miscounted fs at-front (w .0)))
       (λ w.
       let i = w .1 .0 in
       let k = unwanted-first 1 (K .wanted) fs i (w .1 .1) in
       let at : k .0 + 1 ≡ i = omega (arith, k .1) in
       subst (λ d. Line-fails K m p (line ++ (10 ∷ more)) (Line d)) (sym (w .1 .2))
       (subst (λ j. Line-fails K m p (line ++ (10 ∷ more)) (Line (Field (record { place = p; field = j })))) at
-      (unwanted fs more (k .0) whole plain (w .0) (k .2) (k .3) (k .4))))
+      (unwanted fs (k .0) at-front (w .0) (k .2) (k .3) (k .4))))
       (fault-some (K .wanted) p fs (up .0) (answer-err (line-fault (K .wanted) p fs) (K .value fs) (up .0) (up .1)))))
       (λ bad.
       let r = bad .0 in
       let spelled = answer-ok (line-fault (K .wanted) p fs) (K .value fs) r (raised-ok Line (spelt K p line) r (bad .1)) in
       let wanted = fault-none (K .wanted) p fs (spelled .0) in
-      let writes : glued 44 (K .fields r) ≡ line =
-      ap (λ x. glued 44 (K .fields x)) (spelled .1) ∙ ap (glued 44) (lawful .forth fs (wanted .0) (wanted .1)) ∙ glued-pieces 44 line in
       let up = raised-err Parish (accepted K p m r) f (bad .2) in
       let why = mapped-some (λ d. record { place = p; field = K .blamed m r d; refusal = d }) (K .refusal m r) (up .0)
       (answer-err (mapped (λ d. record { place = p; field = K .blamed m r d; refusal = d }) (K .refusal m r)) (K .with-more m (r ∷ [])) (up .0) (up .1)) in
-      subst (Line-fails K m p (line ++ (10 ∷ more))) (sym (up .2 ∙ ap Parish (why .2)))
-      (refused r more (why .0) (front (K .fields r) line more writes) (why .1)))
+      subst (Line-fails K m p (line ++ (10 ∷ more))) (sym (up .2 ∙ ap Parish (why .2) ∙ ap (λ x. Parish (record { place = p; field = K .blamed m x (why .0); refusal = why .0 })) (spelled .1)))
+      (refused fs (why .0) at-front (wanted .0) (λ j lt. none-wanted 1 (K .wanted) fs (wanted .0) (wanted .1) j lt)
+      (ap (K .refusal m) (sym (spelled .1)) ∙ why .1)))
       (and-then-err (raised Line (spelt K p line)) (λ r. raised Parish (accepted K p m r)) f e)
 
   -- one line more at the front
@@ -444,3 +487,84 @@ module _ {R : Type 0} (K : Kind R) (lawful : Lawful-kind K) where
       ∙ all-step K m (K .names) (pieces 10 lines) (pieces-some 10 lines)
       ∙ ap (λ t. cond t (lines-read K 2 m (pieces 10 lines)) (Err (Line (WrongNames (place-of K 1))))) (same-self (K .names))
       ∙ lines-back 2 m rs sound whole
+
+  -- ---- the first fault is the one that reading gives
+  -- an ended line is cut off whole, and into its fields again
+  module _ (rest : List ℕ) (fs : List (List ℕ)) (o : Opens rest fs) where
+    line-cut : pieces 10 rest ≡ glued 44 fs ∷ pieces 10 (o .more)
+    line-cut =
+        ap (pieces 10) (o .whole ∙ append-assoc (glued 44 fs) (10 ∷ []) (o .more))
+        ∙ pieces-at 10 (glued 44 fs) (o .more) (glued-plain fs (o .plain))
+
+    fields-cut : pieces 44 (glued 44 fs) ≡ fs
+    fields-cut = pieces-glued 44 fs (o .some) (plain-commas fs (o .plain))
+
+    -- reading stops at it where it has a fault of its own, or its record is refused
+    line-faulty : (n : ℕ) (m : Model) (d : LineFault) → line-fault (K .wanted) (place-of K n) fs ≡ Some d → lines-read K n m (pieces 10 rest) ≡ Err (Line d)
+    line-faulty n m d e =
+        line-step K n m rest (o .more) (glued 44 fs) line-cut
+        ∙ ap (λ gs. and-then (and-then (raised Line (spelt-by K (place-of K n) gs)) (λ r. raised Parish (accepted K (place-of K n) m r))) (λ k. lines-read K (n + 1) k (pieces 10 (o .more)))) fields-cut
+        ∙ ap (λ x. and-then (and-then (raised Line (answer-by x (K .value fs))) (λ r. raised Parish (accepted K (place-of K n) m r))) (λ k. lines-read K (n + 1) k (pieces 10 (o .more)))) e
+
+    line-unwelcome : (n : ℕ) (m : Model) (e : Refusal) → line-fault (K .wanted) (place-of K n) fs ≡ None → K .refusal m (K .value fs) ≡ Some e
+        → lines-read K n m (pieces 10 rest) ≡ Err (Parish (record { place = place-of K n; field = K .blamed m (K .value fs) e; refusal = e }))
+    line-unwelcome n m e good why =
+        line-step K n m rest (o .more) (glued 44 fs) line-cut
+        ∙ ap (λ gs. and-then (and-then (raised Line (spelt-by K (place-of K n) gs)) (λ r. raised Parish (accepted K (place-of K n) m r))) (λ k. lines-read K (n + 1) k (pieces 10 (o .more)))) fields-cut
+        ∙ ap (λ x. and-then (and-then (raised Line (answer-by x (K .value fs))) (λ r. raised Parish (accepted K (place-of K n) m r))) (λ k. lines-read K (n + 1) k (pieces 10 (o .more)))) good
+        ∙ ap (λ x. and-then (raised Parish (answer-by (mapped (λ d. record { place = place-of K n; field = K .blamed m (K .value fs) d; refusal = d }) x) (K .with-more m (K .value fs ∷ [])))) (λ k. lines-read K (n + 1) k (pieces 10 (o .more)))) why
+
+  -- what is not ended is no line
+  tail-fails : (n : ℕ) (m : Model) (rest : List ℕ) → 0 < length rest → Lacks 10 rest → lines-read K n m (pieces 10 rest) ≡ Err (Line (WrongCount (place-of K n)))
+  tail-fails n m [] some lacks = absurd (let z : ⊥ = omega arith in z)
+  tail-fails n m (x ∷ xs) some lacks = ap (lines-read K n m) (pieces-whole 10 (x ∷ xs) lacks)
+
+  line-fails-back : (n : ℕ) (m : Model) (rest : List ℕ) {f : LoadFault} → Line-fails K m (place-of K n) rest f → lines-read K n m (pieces 10 rest) ≡ Err f
+  line-fails-back n m rest (unended some lacks) = tail-fails n m rest some lacks
+  line-fails-back n m rest (miscounted fs o ne) =
+      line-faulty rest fs o n m (WrongCount (place-of K n))
+      (ap (λ t. cond t (mapped (λ i. Field (record { place = place-of K n; field = i })) (first-unwanted 1 (K .wanted) fs)) (Some (WrongCount (place-of K n)))) (ne-eqb (length fs) (length (K .wanted)) ne))
+  line-fails-back n m rest (unwanted fs k o long lt all bad) =
+      line-faulty rest fs o n m (Field (record { place = place-of K n; field = k + 1 }))
+      (ap (λ t. cond t (mapped (λ i. Field (record { place = place-of K n; field = i })) (first-unwanted 1 (K .wanted) fs)) (Some (WrongCount (place-of K n)))) (eq-eqb (length fs) (length (K .wanted)) long)
+      ∙ ap (mapped (λ i. Field (record { place = place-of K n; field = i }))) (first-found 1 (K .wanted) fs k long lt all bad)
+      ∙ ap (λ i. Some (Field (record { place = place-of K n; field = i }))) (let z : 1 + k ≡ k + 1 = omega arith in z))
+  line-fails-back n m rest (refused fs e o long all why) =
+      line-unwelcome rest fs o n m e (none-fault (K .wanted) (place-of K n) fs long (wanted-none 1 (K .wanted) fs long all)) why
+
+  -- the good lines before it are read
+  lines-through : (n : ℕ) (m : Model) (good : List R) (rest : List ℕ) → Sound m → Sound (K .with-more m good)
+      → lines-read K n m (pieces 10 (lines-of good ++ rest)) ≡ lines-read K (length good + n) (K .with-more m good) (pieces 10 rest)
+  lines-through n m [] rest sound whole =
+      ap (λ k. lines-read K k m (pieces 10 rest)) (let z : n ≡ 0 + n = omega arith in z)
+      ∙ ap (λ k. lines-read K (0 + n) k (pieces 10 rest)) (sym (lawful .none m))
+  lines-through n m (r ∷ rs) rest sound whole =
+      let taken = lawful .room m r rs whole in
+      let m₁ = K .with-more m (r ∷ []) in
+      let line = glued 44 (K .fields r) in
+      let after = lines-of rs ++ rest in
+      let cut : pieces 10 (lines-of (r ∷ rs) ++ rest) ≡ line ∷ pieces 10 after =
+      ap (pieces 10) (sym (line-on r rs line after rest refl refl))
+      ∙ pieces-at 10 line after (glued-plain (K .fields r) (lawful .back m r sound taken .3)) in
+      line-step K n m (lines-of (r ∷ rs) ++ rest) after line cut
+      ∙ ap (λ x. and-then x (λ k. lines-read K (n + 1) k (pieces 10 after))) (line-back (place-of K n) m r sound taken)
+      ∙ lines-through (n + 1) m₁ rs rest (lawful .keeps m r sound taken) (subst Sound (sym (lawful .more m r rs)) whole)
+      ∙ ap (λ k. lines-read K (length rs + (n + 1)) k (pieces 10 rest)) (lawful .more m r rs)
+      ∙ ap (λ j. lines-read K j (K .with-more m (r ∷ rs)) (pieces 10 rest)) (let z : length rs + (n + 1) ≡ suc (length rs) + n = omega arith in z)
+
+  misnamed-back : (m : Model) (ps : List (List ℕ)) → 0 < length ps → ((rest : List ℕ) → glued 10 ps ≡ K .names ++ (10 ∷ rest) → ⊥)
+      → all-read K m ps ≡ Err (Line (WrongNames (place-of K 1)))
+  misnamed-back m [] some unnamed = absurd (let z : ⊥ = omega arith in z)
+  misnamed-back m (p ∷ []) some unnamed = refl
+  misnamed-back m (p ∷ (q ∷ ps)) some unnamed =
+      cond-false (same p (K .names)) (lines-read K 2 m (q ∷ ps)) (Err (Line (WrongNames (place-of K 1))))
+      (differ p (K .names) (λ e. unnamed (glued 10 (q ∷ ps)) (ap (λ x. x ++ (10 ∷ glued 10 (q ∷ ps))) e)))
+
+  pub sheet-fails-back : (m : Model) (s : List ℕ) {f : LoadFault} → Sound m → Sheet-fails K m s f → sheet-read K m s ≡ Err f
+  sheet-fails-back m s sound (misnamed unnamed) =
+      misnamed-back m (pieces 10 s) (pieces-some 10 s) (λ rest e. unnamed rest (sym (glued-pieces 10 s) ∙ e))
+  sheet-fails-back m s sound (bad-line good rest f whole keeps fails) =
+      names-right K m s (lines-of good ++ rest) (K .names)
+      (ap (pieces 10) (whole ∙ append-assoc (K .names) (10 ∷ lines-of good) rest) ∙ pieces-at 10 (K .names) (lines-of good ++ rest) (lawful .named)) refl
+      ∙ lines-through 2 m good rest sound keeps
+      ∙ line-fails-back (length good + 2) (K .with-more m good) rest fails

@@ -11,11 +11,11 @@ use Rattle.parish.specs.Model.{Model, Sound, no-model}
 use Rattle.spelling.specs.declared.counts.Counts.{Counts}
 use Rattle.faults.specs.declared.LoadFault.{LoadFault}
 use Rattle.spelling.specs.Kinds.{households-kind, links-kind}
-use Rattle.spelling.specs.Laws.{Loaded, Faulty, Spells, Sheet-fails, Load-fails, in-households, in-links, Spelling-is-unique}
+use Rattle.spelling.specs.Laws.{Loaded, Faulty, Spells, Sheet-fails, Load-fails, in-households, in-links, Faults-are-first, Spelling-is-unique}
 use Rattle.spelling.specs.Lines.{and-then, sheet-read}
 use Rattle.spelling.specs.Loads.{loaded, counts-of}
 use Rattle.spelling.proofs.Lawful.{households-lawful, links-lawful}
-use Rattle.spelling.proofs.Reading.{ok-or-not, and-then-ok, and-then-err, sheet-ok, sheet-err, sheet-back}
+use Rattle.spelling.proofs.Reading.{ok-or-not, and-then-ok, and-then-err, sheet-ok, sheet-err, sheet-back, sheet-fails-back}
 
 no-model-sound : Sound no-model
 no-model-sound =
@@ -58,6 +58,17 @@ loaded-back one two m sound spells =
     (sheet-back households-kind households-lawful no-model (m .households) no-model-sound (households-alone m sound))
     ∙ ap (sheet-read links-kind alone) (spells .second)
     ∙ sheet-back links-kind links-lawful alone (m .links) (households-alone m sound) sound
+
+pub load-fails-back : (one two : List ℕ) {f : LoadFault} → Load-fails one two f → loaded one two ≡ Err f
+load-fails-back one two (in-households f fails) =
+    ap (λ r. and-then r (λ k. sheet-read links-kind k two)) (sheet-fails-back households-kind households-lawful no-model one no-model-sound fails)
+load-fails-back one two (in-links f hs whole sound fails) =
+    ap (λ s. and-then (sheet-read households-kind no-model s) (λ k. sheet-read links-kind k two)) whole
+    ∙ ap (λ r. and-then r (λ k. sheet-read links-kind k two)) (sheet-back households-kind households-lawful no-model hs no-model-sound sound)
+    ∙ sheet-fails-back links-kind links-lawful (record { households = hs; links = [] }) two sound fails
+
+pub faults-are-first : Faults-are-first
+faults-are-first one two f = (loaded-err one two f, load-fails-back one two)
 
 pub spelling-is-unique : Spelling-is-unique
 spelling-is-unique one two m n sm sn spells-m spells-n =

@@ -47,21 +47,27 @@ module _ {R : Type 0} (K : Kind R) where
   abbrev pub Wanted : List (List ℕ) → ℕ → Type 0
   Wanted fs k = getD (K .wanted) k never (getD fs k []) ≡ true
 
+-- the line at the front of a text: it is ended, and these are its fields
+pub record Opens (text : List ℕ) (fs : List (List ℕ)) : Type 0 where
+  pub more : List ℕ
+  pub whole : text ≡ line-of fs ++ more
+  pub some : 0 < length fs
+  pub plain : All Plain fs
+
 -- Why the value line at the front of `rest` is bad, at its place, for a parish that holds m. Each way says that the tests
 -- before it passed.
 pub data Line-fails {R : Type 0} (K : Kind R) (m : Model) (p : Place) (rest : List ℕ) : LoadFault → Type 0 where
   -- something stands there, and no byte 10 ends it
   unended : (0 < length rest) → Lacks 10 rest → Line-fails K m p rest (Line (WrongCount p))
   -- it has a wrong count of fields
-  miscounted : (fs : List (List ℕ)) (more : List ℕ) → rest ≡ line-of fs ++ more → All Plain fs
-      → (length fs ≡ length (K .wanted) → ⊥) → Line-fails K m p rest (Line (WrongCount p))
+  miscounted : (fs : List (List ℕ)) → Opens rest fs → (length fs ≡ length (K .wanted) → ⊥) → Line-fails K m p rest (Line (WrongCount p))
   -- of its fields, as many as there should be, field k is the first that is not as wanted
-  unwanted : (fs : List (List ℕ)) (more : List ℕ) (k : ℕ) → rest ≡ line-of fs ++ more → All Plain fs
-      → length fs ≡ length (K .wanted) → k < length fs → ((j : ℕ) → j < k → Wanted K fs j) → (Wanted K fs k → ⊥)
-      → Line-fails K m p rest (Line (Field (record { place = p; field = k + 1 })))
-  -- it writes a record that the parish refuses
-  refused : (r : R) (more : List ℕ) (e : Refusal) → rest ≡ line-of (K .fields r) ++ more → K .refusal m r ≡ Some e
-      → Line-fails K m p rest (Parish (record { place = p; field = K .blamed m r e; refusal = e }))
+  unwanted : (fs : List (List ℕ)) (k : ℕ) → Opens rest fs → length fs ≡ length (K .wanted) → k < length fs
+      → ((j : ℕ) → j < k → Wanted K fs j) → (Wanted K fs k → ⊥) → Line-fails K m p rest (Line (Field (record { place = p; field = k + 1 })))
+  -- its fields are all as wanted, and the parish refuses the record that they write
+  refused : (fs : List (List ℕ)) (e : Refusal) → Opens rest fs → length fs ≡ length (K .wanted) → ((j : ℕ) → j < length fs → Wanted K fs j)
+      → K .refusal m (K .value fs) ≡ Some e
+      → Line-fails K m p rest (Parish (record { place = p; field = K .blamed m (K .value fs) e; refusal = e }))
 
 -- The first fault of a sheet that is read onto a parish that holds m.
 pub data Sheet-fails {R : Type 0} (K : Kind R) (m : Model) (sheet : List ℕ) : LoadFault → Type 0 where
@@ -76,6 +82,12 @@ pub data Load-fails (households links : List ℕ) : LoadFault → Type 0 where
   in-households : (f : LoadFault) → Sheet-fails households-kind no-model households f → Load-fails households links f
   in-links : (f : LoadFault) (hs : List Household) → households ≡ sheet-of households-kind hs → Sound (record { households = hs; links = [] })
       → Sheet-fails links-kind (record { households = hs; links = [] }) links f → Load-fails households links f
+
+-- these say which fault a load gives: it gives just the one that is the first
+abbrev pub Faults-are-first : Type 0
+Faults-are-first =
+    (households links : List ℕ) (f : LoadFault)
+    → (loaded households links ≡ Err f → Load-fails households links f) × (Load-fails households links f → loaded households links ≡ Err f)
 
 -- one pair of sheets spells one parish at most
 abbrev pub Spelling-is-unique : Type 0

@@ -1,6 +1,6 @@
 // What the definitions mean, in plain words. Each function only carries its theorem.
 ghost use Rattle.spelling.specs.Fields.{Number-fields, Pin-fields};
-ghost use Rattle.spelling.specs.Laws.{Spelling-is-unique};
+ghost use Rattle.spelling.specs.Laws.{Faults-are-first, Spelling-is-unique};
 ghost use Rattle.spelling.specs.Pieces.{Pieces-are-the-cut};
 
 // Cutting at a byte gives the one list of pieces that have no such byte and are the text when put together again.
@@ -20,6 +20,14 @@ pub fn number_fields_are_decimals() -> u8
 // A field is a pin just where it is the letter of that pin.
 pub fn pin_fields_are_letters() -> u8
     ensures { λ _. ⌜ Pin-fields ⌝ }
+{
+    0
+}
+
+// A load gives a fault just where it is the first: every line before the bad one writes a record that the parish takes,
+// every test before the failing one passes, and none is skipped.
+pub fn faults_are_first() -> u8
+    ensures { λ _. ⌜ Faults-are-first ⌝ }
 {
     0
 }
