@@ -9,7 +9,7 @@ use std::io::Read;
 
 // Reads the first bytes of a file, as many as there is room for, and answers how many there were. A file that is missing
 // is empty.
-pub fn read_front(rt: &LibcRuntime, name: &str, room: &mut [u8]) -> io::Result<usize>
+pub(crate) fn read_front(rt: &LibcRuntime, name: &str, room: &mut [u8]) -> io::Result<usize>
     ensures { λ r. ⌜ made r (λ n. n ≤ length (now (room .entry))) ⌝ }
 {
     let mut file = match fs::open(rt, name) {

@@ -86,8 +86,7 @@ pub impl From<ParishFault> for LoadFault as LoadFromParish {
 }
 
 impl LineFault {
-    // Where it is.
-    pub fn place(self) -> Place
+    fn place(self) -> Place
         ensures { λ r. ⌜ r ≡ line-fault-place self ⌝ }
     {
         match self {
@@ -112,7 +111,7 @@ impl LoadFault {
     }
 
     // Where it is, unless the call itself is refused.
-    pub fn place(self) -> Option<Place>
+    fn place(self) -> Option<Place>
         ensures { λ r. ⌜ r ≡ fault-place self ⌝ }
     {
         match self {

@@ -3,29 +3,18 @@ use mathlib.Core.Bool.{cond}
 use mathlib.Core.List.{List, []}
 use Prim.Native.Nat.{ℕ}
 use lib.Dec.{eqb}
-use Rattle.std.specs.declared.option.Option.{Option}
-use Rattle.std.specs.declared.option.Option.the-variants.{Some, None}
 use Rattle.faults.specs.declared.LoadFault.{LoadFault}
-use Rattle.faults.specs.declared.Place.{Place}
-use Rattle.faults.specs.declared.Sheet.{Sheet}
-use Rattle.faults.specs.declared.Sheet.the-variants.{Households, Links}
-use Rattle.faults.specs.Faults.{fault-place, fault-field}
+use Rattle.faults.specs.Faults.{fault-sheet, fault-line, fault-field}
 use Rattle.spelling.specs.Pieces.{pieces, numbered}
-
--- the one of the two sheets that is meant
-abbrev pub chosen : Sheet → List ℕ → List ℕ → List ℕ
-chosen Households households links = households
-chosen Links households links = links
 
 -- a field of a line, or the line itself for field 0
 abbrev pub field-of : ℕ → List ℕ → List ℕ
 field-of k line = cond (eqb k 0) line (numbered k (pieces 44 line))
 
--- the part at a place; nothing where there is no place
-abbrev pub spot-at : Option Place → ℕ → List ℕ → List ℕ → List ℕ
-spot-at None k households links = []
-spot-at (Some p) k households links = field-of k (numbered (p .line) (pieces 10 (chosen (p .sheet) households links)))
+-- the line of a fault in a sheet, or its field there
+abbrev pub spot-in : LoadFault → List ℕ → List ℕ
+spot-in f sheet = field-of (fault-field f) (numbered (fault-line f) (pieces 10 sheet))
 
--- lines and fields are counted from 1, and what is not there is an empty part
+-- in sheet 1 or 2; lines and fields are counted from 1, and what is not there is an empty part
 abbrev pub spot-of : LoadFault → List ℕ → List ℕ → List ℕ
-spot-of f households links = spot-at (fault-place f) (fault-field f) households links
+spot-of f households links = cond (eqb (fault-sheet f) 1) (spot-in f households) (cond (eqb (fault-sheet f) 2) (spot-in f links) [])

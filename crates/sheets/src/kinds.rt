@@ -6,22 +6,18 @@ ghost use Rattle.spelling.specs.Lines.{spelt, Added};
 use faults::LineFault;
 use faults::ParishFault;
 use faults::Place;
-use faults::Sheet;
 use parish::Parish;
 
 pub mod households;
 pub mod links;
 
-// A kind of sheet: its number, its names line and its record.
+// A kind of sheet: its names line and its record.
 pub trait SheetKind {
     type Record;
 
     const NAMES: &'static [u8];
 
     ghost kind: { Kind Self·Record };
-
-    fn sheet() -> Sheet
-        ensures { λ r. ⌜ r ≡ kind .sheet ⌝ };
 
     // `NAMES`, as the kind has it.
     fn names_line() -> &'static [u8]

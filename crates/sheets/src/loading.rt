@@ -20,19 +20,22 @@ use faults::LoadFault;
 use faults::LoadFromLine;
 use faults::LoadFromParish;
 use faults::Place;
+use faults::Sheet;
 use parish::Parish;
 use spelling::Counts;
 
 // Reads the value lines that are left, from line 2 on, onto a parish.
-fn read_lines<K: SheetKind>(reader: &mut Reader<'_>, parish: &mut Parish) -> Result<(), LoadFault>
-    requires { ⌜ 2 + length (drop (now reader .place) (now (now reader .bytes))) < 2 ^ 64 ⌝ }
+fn read_lines<K: SheetKind>(
+    sheet: Sheet,
+    reader: &mut Reader<'_>,
+    parish: &mut Parish,
+) -> Result<(), LoadFault>
+    requires sheet { ⌜ sheet ≡ K·SheetKind .kind .sheet ⌝ }
+    requires short { ⌜ 2 + length (drop (now reader .place) (now (now reader .bytes))) < 2 ^ 64 ⌝ }
     ensures { λ r. ⌜ Read (lines-read (K·SheetKind .kind) 2 (view (now (parish .entry)))
         (pieces 10 (drop (now (reader .entry) .place) (now (now (reader .entry) .bytes))))) (view (now (parish .exit))) r ⌝ }
 {
-    let mut place = Place {
-        sheet: K::sheet(),
-        line: 2,
-    };
+    let mut place = Place { sheet, line: 2 };
     while let Some(line) = reader.part(b'\n') {
         let record = K::record(place, line)?;
         K::add(parish, place, record)?;
@@ -44,22 +47,24 @@ fn read_lines<K: SheetKind>(reader: &mut Reader<'_>, parish: &mut Parish) -> Res
     Ok(())
 }
 
-// Reads a sheet, its names line first, onto a parish.
-fn read_sheet<K: SheetKind>(sheet: &[u8], parish: &mut Parish) -> Result<(), LoadFault>
-    ensures { λ r. ⌜ Read (sheet-read (K·SheetKind .kind) (view (now (parish .entry))) (now (sheet .entry))) (view (now (parish .exit))) r ⌝ }
+// Reads the bytes of a sheet, its names line first, onto a parish.
+fn read_sheet<K: SheetKind>(
+    sheet: Sheet,
+    bytes: &[u8],
+    parish: &mut Parish,
+) -> Result<(), LoadFault>
+    requires { ⌜ sheet ≡ K·SheetKind .kind .sheet ⌝ }
+    ensures { λ r. ⌜ Read (sheet-read (K·SheetKind .kind) (view (now (parish .entry))) (now (bytes .entry))) (view (now (parish .exit))) r ⌝ }
 {
-    let mut reader = Reader::new(sheet);
-    let wrong_names = LoadFault::Line(LineFault::WrongNames(Place {
-        sheet: K::sheet(),
-        line: 1,
-    }));
+    let mut reader = Reader::new(bytes);
+    let wrong_names = LoadFault::Line(LineFault::WrongNames(Place { sheet, line: 1 }));
     let Some(names) = reader.part(b'\n') else {
         return Err(wrong_names);
     };
     if names != K::names_line() {
         return Err(wrong_names);
     }
-    read_lines::<K>(&mut reader, parish)
+    read_lines::<K>(sheet, &mut reader, parish)
 }
 
 // Reads both sheets into a parish that is emptied first.
@@ -67,8 +72,8 @@ fn read_both(parish: &mut Parish, households: &[u8], links: &[u8]) -> Result<(),
     ensures { λ r. ⌜ Read (loaded (now (households .entry)) (now (links .entry))) (view (now (parish .exit))) r ⌝ }
 {
     parish.clear();
-    read_sheet::<Households>(households, parish)?;
-    read_sheet::<Links>(links, parish)
+    read_sheet::<Households>(Sheet::Households, households, parish)?;
+    read_sheet::<Links>(Sheet::Links, links, parish)
 }
 
 // Reads both sheets into a parish that is emptied first, and answers its counts.

@@ -4,7 +4,6 @@ ghost use Rattle.spelling.specs.Pieces.{pieces, numbered};
 ghost use Rattle.sheets.specs.Spots.{spot-of};
 use super::reader::Reader;
 use faults::LoadFault;
-use faults::Sheet;
 
 // The part of a number, counted from 1, between bytes `end`; an empty part where there is none.
 fn numbered_part(bytes: &[u8], end: u8, number: usize) -> &[u8]
@@ -30,14 +29,12 @@ fn numbered_part(bytes: &[u8], end: u8, number: usize) -> &[u8]
 pub fn spot<'a>(fault: LoadFault, households: &'a [u8], links: &'a [u8]) -> &'a [u8]
     ensures { λ r. ⌜ now r ≡ spot-of fault (now (households .entry)) (now (links .entry)) ⌝ }
 {
-    let Some(place) = fault.place() else {
-        return &[];
+    let sheet = match fault.sheet() {
+        1 => households,
+        2 => links,
+        _ => return &[],
     };
-    let sheet = match place.sheet {
-        Sheet::Households => households,
-        Sheet::Links => links,
-    };
-    let line = numbered_part(sheet, b'\n', place.line);
+    let line = numbered_part(sheet, b'\n', fault.line());
     let field = fault.field();
     if field == 0 {
         return line;

@@ -10,7 +10,6 @@ use faults::LineFault;
 use faults::LineFromField;
 use faults::ParishFault;
 use faults::Place;
-use faults::Sheet;
 use parish::Household;
 use parish::Parish;
 use parish::Refusal;
@@ -24,10 +23,6 @@ pub impl SheetKind for Households as HouseholdsKind {
     const NAMES: &'static [u8] = b"weight,lot";
 
     ghost kind = { households-kind };
-
-    fn sheet() -> Sheet {
-        Sheet::Households
-    }
 
     fn names_line() -> &'static [u8] {
         Self::NAMES

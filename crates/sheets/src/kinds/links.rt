@@ -10,7 +10,6 @@ use faults::LineFault;
 use faults::LineFromField;
 use faults::ParishFault;
 use faults::Place;
-use faults::Sheet;
 use parish::Link;
 use parish::Parish;
 use parish::Refusal;
@@ -24,10 +23,6 @@ pub impl SheetKind for Links as LinksKind {
     const NAMES: &'static [u8] = b"from,to,strength";
 
     ghost kind = { links-kind };
-
-    fn sheet() -> Sheet {
-        Sheet::Links
-    }
 
     fn names_line() -> &'static [u8] {
         Self::NAMES
