@@ -1,5 +1,7 @@
 // Answers questions to lower bounds, one a line, from standard input to standard output. `questions` says how a question is
 // written and `answers` how an answer is; `stacks` has the bounds. A line that is no question ends the program with status 1.
+#![tactic(auto)]
+
 use parish::Parish;
 use std::io::{BufRead, BufReader};
 

@@ -1,5 +1,7 @@
 // How long a flow over the bounds decided and bare takes, on questions that are drawn. The times go to standard error, since
 // they are never the same. bench/twin/bounds.rs asks the same questions.
+#![tactic(auto)]
+
 ghost use Rattle.std.specs.Prelude.{◌<◌};
 
 use bounds::{Bare, Decided};

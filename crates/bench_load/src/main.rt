@@ -1,4 +1,6 @@
 // How long a load of the largest parish takes. The time goes to standard error, since it is never the same.
+#![tactic(auto)]
+
 ghost use Rattle.std.specs.Prelude.{◌≡◌, IfOk, MatchResult};
 ghost use Rattle.parish.specs.View.{view};
 ghost use Rattle.spelling.specs.Laws.{Loaded, Faulty};

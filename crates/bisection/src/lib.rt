@@ -1,5 +1,7 @@
 // Lists of lots of a parish: what they weigh, what a bisection costs, and which bisections are lawful. The definitions that
 // every later promise rests on stand in specs/.
+#![tactic(auto)]
+
 pub mod costs;
 pub mod laws;
 pub mod lots;

@@ -1,4 +1,6 @@
 // Lower bounds on the cost of every bisection that extends a list of lots.
+#![tactic(auto)]
+
 pub mod bare;
 pub mod decided;
 pub mod laws;

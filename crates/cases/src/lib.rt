@@ -1,4 +1,6 @@
 // The worked cases, and others that an independent enumeration gave, on the definitions of the crates below.
+#![tactic(auto)]
+
 ghost use Rattle.cases.specs.Worked.{WorkedCases};
 ghost use Rattle.cases.specs.Enumerated.{EnumeratedCases};
 ghost use Rattle.cases.specs.Full.{FullStrengthsDoNotAdd};

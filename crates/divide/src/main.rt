@@ -1,5 +1,7 @@
 // Reads a parish from `households.csv` and `links.csv` in the folder where it runs, and reports it, or what is wrong with
 // the two sheets.
+#![tactic(auto)]
+
 use anyhow::anyhow;
 use parish::Parish;
 use report::report_sheets;

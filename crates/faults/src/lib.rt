@@ -1,5 +1,7 @@
 // What can be wrong with a load, and where. A field's fault stands inside a line's fault, and that inside the load's:
 // an upper layer passes on the fault of a lower one whole.
+#![tactic(auto)]
+
 ghost use Rattle.std.specs.Prelude.{◌≡◌};
 ghost use Rattle.faults.specs.declared.LineFault.TheVariants.{Field};
 ghost use Rattle.faults.specs.declared.LoadFault.TheVariants.{Line, Parish};

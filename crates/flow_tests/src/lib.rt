@@ -1,4 +1,6 @@
 // Tests of the flow layer: what it adds on examples and in the largest parishes, and what it refuses.
+#![tactic(auto)]
+
 #[cfg(test)]
 mod asking;
 #[cfg(test)]

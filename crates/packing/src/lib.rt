@@ -1,4 +1,6 @@
 // Packing, a layer over any lower bound. What its trees are is defined in the crate `forest`.
+#![tactic(auto)]
+
 mod counting;
 mod growing;
 pub mod layer;

@@ -1,5 +1,5 @@
 -- One household or link more, within what is accepted, keeps the limits. Assumes nothing.
-use Rattle.std.proofs.Common.{◌≡◌, ℕ, ◌+◌, ◌<◌, ◌≤◌, List, [], ◌∷◌, ◌++◌, length, get_or, sym, subst, arith}
+use Rattle.std.proofs.Common.{◌≡◌, ℕ, ◌<◌, ◌≤◌, List, [], ◌∷◌, ◌++◌, length, get_or, sym, subst, arith}
 use Rattle.std.proofs.lemmas.List.Elements.{AllWithin-push}
 use Rattle.parish.specs.Limits.{heaviest_held, Weights, Joins, Joined}
 use Rattle.parish.specs.declared.items.Household.{Household}

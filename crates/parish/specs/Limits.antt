@@ -1,6 +1,6 @@
 -- What a parish can hold, and what its calls accept. The two are apart, so that a parish derived from others may one day
 -- hold heavier households and stronger links than a call accepts. Assumes nothing.
-use Rattle.std.specs.Prelude.{◌≡◌, ℕ, ◌<◌, ◌≤◌, List, length, get_or, ◌≢◌, slice_index_or}
+use Rattle.std.specs.Prelude.{ℕ, ◌<◌, ◌≤◌, List, length, get_or, ◌≢◌, slice_index_or}
 use Rattle.parish.specs.declared.items.Household.{Household}
 use Rattle.parish.specs.declared.items.Link.{Link}
 

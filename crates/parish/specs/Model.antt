@@ -1,5 +1,5 @@
 -- A parish as two lists, and what its edits make of them. Assumes nothing.
-use Rattle.std.specs.Prelude.{◌≡◌, ℕ, ◌≤◌, List, [], ◌∷◌, ◌++◌, length, None, Option, slice_index_or, slice_set}
+use Rattle.std.specs.Prelude.{ℕ, ◌≤◌, List, [], ◌∷◌, ◌++◌, length, None, Option, slice_index_or, slice_set}
 use Rattle.parish.specs.declared.items.Household.{Household}
 use Rattle.parish.specs.declared.items.Link.{Link}
 use Rattle.parish.specs.declared.items.Lot.{Lot}

@@ -1,4 +1,6 @@
 // A parish: its households, the links between them, and what it refuses.
+#![tactic(auto)]
+
 pub mod items;
 pub mod limits;
 pub mod refusals;

@@ -1,4 +1,6 @@
 // Two sheets of text read into a parish, or told exactly what is wrong with them.
+#![tactic(auto)]
+
 mod fields;
 pub mod kinds;
 pub mod loading;

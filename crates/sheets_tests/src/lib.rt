@@ -1,4 +1,6 @@
 // Tests of loads: what two sheets give, or what is wrong with them.
+#![tactic(auto)]
+
 #[cfg(test)]
 mod cases;
 #[cfg(test)]

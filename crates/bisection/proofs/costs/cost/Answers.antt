@@ -24,4 +24,4 @@ pub returns : goal.returns
 returns c =
     let ls = c.links-links.result.now in
     let F = sum_by (cut_strength c.args.lots.now) in
-    fit_answers (view c.args.parish.now) c.args.lots.now _ _ (sym c.if-not-lots-fit.ensures) (c.loop-link.invariant.0 ∙ ap F (take_all c.loop-link.link-index ls c.loop-link-test.false ∙ c.links-links.ensures))
+    fit_answers (view c.args.parish.now) c.args.lots.now _ _ (sym c.if-not-lots_fit.ensures) (c.loop-link.invariant.0 ∙ ap F (take_all c.loop-link.link-index ls c.loop-link-test.false ∙ c.links-links.ensures))

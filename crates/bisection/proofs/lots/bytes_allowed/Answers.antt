@@ -12,8 +12,8 @@ pub loop-lot-preserved : goal.loop-lot-preserved
 loop-lot-preserved c =
     let more = allowed_more c.args.lots.now c.loop-lot.lot-index c.loop-lot-test.true in grind (arith, nat_tests, more)
 
-pub returns-then-lot-gt-IN-B : goal.returns-then-lot-gt-IN-B
-returns-then-lot-gt-IN-B c =
+pub returns-then-lot-gt-IN_B : goal.returns-then-lot-gt-IN_B
+returns-then-lot-gt-IN_B c =
     let more = allowed_more c.args.lots.now c.loop-lot.lot-index c.loop-lot-test.true in grind (arith, nat_tests, more)
 
 pub returns : goal.returns

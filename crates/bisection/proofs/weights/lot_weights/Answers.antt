@@ -33,4 +33,4 @@ returns c =
     let in_a : c.loop-k.a ≡ lot_weight 1 m.households lots = omega (arith, c.loop-k.invariant.0, weight_done 1 hs lots k c.loop-k-test.false, whole 1) in
     let in_b : c.loop-k.b ≡ lot_weight 2 m.households lots = omega (arith, c.loop-k.invariant.1, weight_done 2 hs lots k c.loop-k-test.false, whole 2) in
     let pair : ℕ → ℕ → LotWeights = λ a b. record { a = a; b = b } in
-    fit_answers m lots _ _ (sym c.if-not-lots-fit.ensures) (ap₂ pair in_a in_b)
+    fit_answers m lots _ _ (sym c.if-not-lots_fit.ensures) (ap₂ pair in_a in_b)

@@ -7,14 +7,14 @@ use Rattle.flows.specs.Paths.{amounts}
 use Rattle.flows.proofs.Adds.{amounts_at, length_amounts}
 use Rattle.flow.proofs.charges.add_amounts.Goals as goal
 
-pub overflow-add-charges : goal.overflow-add-charges
-overflow-add-charges c =
+pub overflow_add-charges : goal.overflow_add-charges
+overflow_add-charges c =
     let k = c.loop-k.k in
     let at = amounts_at c.args.left.now c.args.room.now k c.loop-k-test.true in
     let old = c.loop-k.invariant.1 k (omega arith) in
     let le = c.requires.small k in
-    let e = c.amount-on.ensures in
-    let fits : get_or c.loop-k.charges c.loop-k.k 0 + c.amount-on.result ≤ strongest_held = omega arith in
+    let e = c.amount_on.ensures in
+    let fits : get_or c.loop-k.charges c.loop-k.k 0 + c.amount_on.result ≤ strongest_held = omega arith in
     search rules
 
 pub loop-k-preserved : goal.loop-k-preserved
@@ -26,7 +26,7 @@ loop-k-preserved c =
     let at = amounts_at left room k c.loop-k-test.true in
     let sum = get_or_added cs (amounts left room) k (c.requires.charges_fit ∙ sym (length_amounts left room)) in (
       fill_step 0 c.loop-k.charges (λ j. get_or (added cs (amounts left room)) j 0) k _ (search rules) c.loop-k.invariant.0
-          (omega (arith, sum, at, c.amount-on.ensures, c.loop-k.invariant.1 k (omega arith))),
+          (omega (arith, sum, at, c.amount_on.ensures, c.loop-k.invariant.1 k (omega arith))),
       λ j le. let ne : j ≢ k = omega arith in rw get_or-set_other (c.loop-k.invariant.1 j (omega arith)),
     )
 

@@ -12,8 +12,8 @@ use Rattle.flows.specs.Levels.{flow_charges}
 use Rattle.flows.proofs.Theorems.{flow_bounds}
 use Rattle.flow.proofs.layer.consult_over.Goals as goal
 
-pub add-flow-sent-requires : goal.add-flow-sent-requires
-add-flow-sent-requires g c =
+pub add_flow-sent-requires : goal.add_flow-sent-requires
+add_flow-sent-requires g c =
     let p = c.args.parish.now in
     let m = view p in
     let lots = c.args.lots.now in
@@ -25,8 +25,8 @@ add-flow-sent-requires g c =
       within = λ k. subst (λ (xs : List ℕ). get_or xs k 0 ≤ get_or (strengths (view c.args.parish.now).links) k 0) (sym a.fills) (b.within k);
     }
 
-pub overflow-add-result : goal.overflow-add-result
-overflow-add-result g c =
+pub overflow_add-result : goal.overflow_add-result
+overflow_add-result g c =
     let p = c.args.parish.now in
     let m = view p in
     let lots = c.args.lots.now in
@@ -36,8 +36,8 @@ overflow-add-result g c =
     let below : Meaning = record { number = g.B.LowerBound.number s; charges = g.B.LowerBound.charge s } in
     let b = g.met.B.LowerBound.bounds s m limit lots (parish_sound p) a.fit.lots_fit in
     let most = numbers_fit m limit lots _ _ (parish_sound p) (flow_bounds below m limit lots (parish_sound p) a.fit.lots_fit b) in
-    let sent = c.add-flow-sent.ensures.sent ∙ ap (λ (xs : List ℕ). least_cut m lots (left_of m.links xs)) a.fills in
-    let fits : c.in-ok-number.number + c.add-flow-sent.result ≤ strongest_held * most_links = omega (arith, most.0, a.says, sent) in
+    let sent = c.add_flow-sent.ensures.sent ∙ ap (λ (xs : List ℕ). least_cut m lots (left_of m.links xs)) a.fills in
+    let fits : c.in-ok-number.number + c.add_flow-sent.result ≤ strongest_held * most_links = omega (arith, most.0, a.says, sent) in
     search rules
 
 pub returns : goal.returns
@@ -48,6 +48,6 @@ returns g c =
     let a = c.in-ok-number.ensures in
     record {
       fit = a.fit;
-      says = omega (arith, a.says, c.add-flow-sent.ensures.sent ∙ ap (λ (xs : List ℕ). least_cut m lots (left_of m.links xs)) a.fills);
-      fills = c.add-flow-sent.ensures.after ∙ ap (λ (xs : List ℕ). added xs (flow_charges m lots (left_of m.links xs))) a.fills;
+      says = omega (arith, a.says, c.add_flow-sent.ensures.sent ∙ ap (λ (xs : List ℕ). least_cut m lots (left_of m.links xs)) a.fills);
+      fills = c.add_flow-sent.ensures.after ∙ ap (λ (xs : List ℕ). added xs (flow_charges m lots (left_of m.links xs))) a.fills;
     }

@@ -16,17 +16,17 @@ loop-level-init c =
       there = subst (λ v. All (λ (a : Arc). a.link < length c.args.links.now) (path_back c.args.links.now c.args.marks.now (c.args.depth - 1) v)) (sym c.tail-household.ensures) c.requires.there.1;
     }
 
-pub arc-to-arc-requires : goal.arc-to-arc-requires
-arc-to-arc-requires c =
+pub arc_to-arc-requires : goal.arc_to-arc-requires
+arc_to-arc-requires c =
     record {
       reached = c.loop-level.invariant.reached;
       there = link_there c.args.links.now c.args.marks.now (c.args.depth - c.loop-level.-level) (c.args.depth - (c.loop-level.-level + 1)) c.loop-level.household (omega arith) c.loop-level.invariant.there;
     }
 
 -- the arc at hand is there
-arc_there : (c : goal.After-arc-to-arc) → c.arc-to-arc.result.link < length c.args.links.now
+arc_there : (c : goal.After-arc_to-arc) → c.arc_to-arc.result.link < length c.args.links.now
 arc_there c =
-    subst (λ (a : Arc). a.link < length c.args.links.now) (sym c.arc-to-arc.ensures)
+    subst (λ (a : Arc). a.link < length c.args.links.now) (sym c.arc_to-arc.ensures)
     (link_there c.args.links.now c.args.marks.now (c.args.depth - c.loop-level.-level) (c.args.depth - (c.loop-level.-level + 1)) c.loop-level.household (omega arith) c.loop-level.invariant.there)
 
 pub lesser-least-requires : goal.lesser-least-requires
@@ -34,20 +34,20 @@ lesser-least-requires c =
     let there = arc_there c in
     record {
       left_there = omega (arith, c.requires.network.left_long);
-      room-there = omega (arith, c.requires.roomed.long);
-      small = c.requires.network.small c.arc-to-arc.result.link;
-      within = c.requires.roomed.within c.arc-to-arc.result.link;
+      room_there = omega (arith, c.requires.roomed.long);
+      small = c.requires.network.small c.arc_to-arc.result.link;
+      within = c.requires.roomed.within c.arc_to-arc.result.link;
     }
 
 pub tail-household-requires-in-loop-level : goal.tail-household-requires-in-loop-level
 tail-household-requires-in-loop-level c =
-    subst (λ (a : Arc). a.link < length c.args.links.now) (sym c.arc-to-arc.ensures)
+    subst (λ (a : Arc). a.link < length c.args.links.now) (sym c.arc_to-arc.ensures)
     (link_there c.args.links.now c.args.marks.now (c.args.depth - c.loop-level.-level) (c.args.depth - (c.loop-level.-level + 1)) c.loop-level.household (omega arith) c.loop-level.invariant.there)
 
 pub loop-level-preserved : goal.loop-level-preserved
 loop-level-preserved c =
     measuring_more c.args.links.now c.args.marks.now (c.args.depth - c.loop-level.-level) (c.args.depth - (c.loop-level.-level + 1)) c.loop-level.household (omega arith)
-    c.arc-to-arc.result c.tail-household-in-loop-level.result c.arc-to-arc.ensures c.tail-household-in-loop-level.ensures c.requires.network.ends
+    c.arc_to-arc.result c.tail-household-in-loop-level.result c.arc_to-arc.ensures c.tail-household-in-loop-level.ensures c.requires.network.ends
     c.args.left.now c.args.room.now c.loop-level.least c.lesser-least.result _ c.loop-level.invariant c.lesser-least.ensures
 
 pub returns : goal.returns
@@ -56,4 +56,4 @@ returns c =
     let none = path_none c.args.links.now c.args.marks.now (c.args.depth - c.loop-level.-level) c.loop-level.household (omega arith) in
     sym (ap (least f c.loop-level.least) none)
     ∙ c.loop-level.invariant.goes_on
-    ∙ ap₂ (λ x v. least (room_of c.args.left.now c.args.room.now) x (path_back c.args.links.now c.args.marks.now (c.args.depth - 1) v)) c.room-of-least.ensures c.tail-household.ensures
+    ∙ ap₂ (λ x v. least (room_of c.args.left.now c.args.room.now) x (path_back c.args.links.now c.args.marks.now (c.args.depth - 1) v)) c.room_of-least.ensures c.tail-household.ensures

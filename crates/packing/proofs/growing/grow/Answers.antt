@@ -27,7 +27,7 @@ join-requires c =
     let there : c.in-Some.root < (ground_of c.args.question.now).households = omega (arith, b.there, S.sized.lives) in
     record {
       sized = S.sized;
-      household = c.in-Some-far-end.ensures.3;
+      household = c.in-Some-far_end.ensures.3;
       root = there;
       link = c.loop-link-test.true;
       light = omega (arith, S.weighs c.in-Some.root there, tree_light q (forest_of c.loop-link.trees) c.in-Some.root);
@@ -38,8 +38,8 @@ grow-smaller c =
     let G = ground_of c.args.question.now in
     let S = subst (Stand (ground_of c.args.question.now)) (sym c.loop-link.invariant.0) c.loop-root.invariant.0 in
     let b = lightest_at c.loop-link.trees c.loop-root.trees c.in-Some.root c.loop-link.invariant.0 c.in-Some.ensures in
-    let far = c.in-Some-far-end.ensures in
-    let fewer = takes_fewer (fair c.args.question.now) c.loop-link.trees S c.in-Some.root b c.loop-link.link c.in-Some-far-end.household c.join.new.trees
+    let far = c.in-Some-far_end.ensures in
+    let fewer = takes_fewer (fair c.args.question.now) c.loop-link.trees S c.in-Some.root b c.loop-link.link c.in-Some-far_end.household c.join.new.trees
     c.loop-link-test.true far.0 c.loop-link.invariant.1 far.1 c.join.ensures in
     let same : left_out G c.loop-link.trees ≡ left_out G c.grow.trees =
     ap (λ F. count_below (outside G F) G.households) (ap forest_of c.loop-link.invariant.0 ∙ c.loop-root.invariant.1) in
@@ -49,12 +49,12 @@ pub grow-preserved : goal.grow-preserved
 grow-preserved c =
     let S = subst (Stand (ground_of c.args.question.now)) (sym c.loop-link.invariant.0) c.loop-root.invariant.0 in
     let b = lightest_at c.loop-link.trees c.loop-root.trees c.in-Some.root c.loop-link.invariant.0 c.in-Some.ensures in
-    let far = c.in-Some-far-end.ensures in
-    takes (fair c.args.question.now) c.loop-link.trees S c.in-Some.root b c.loop-link.link c.in-Some-far-end.household c.join.new.trees
+    let far = c.in-Some-far_end.ensures in
+    takes (fair c.args.question.now) c.loop-link.trees S c.in-Some.root b c.loop-link.link c.in-Some-far_end.household c.join.new.trees
     c.loop-link-test.true far.0 c.loop-link.invariant.1 far.1 c.join.ensures
 
 pub loop-link-preserved : goal.loop-link-preserved
-loop-link-preserved c = (c.loop-link.invariant.0, below_more _ _ c.loop-link.invariant.1 c.in-default-far-end.ensures)
+loop-link-preserved c = (c.loop-link.invariant.0, below_more _ _ c.loop-link.invariant.1 c.in-default-far_end.ensures)
 
 pub loop-root-smaller : goal.loop-root-smaller
 loop-root-smaller c =

@@ -5,10 +5,10 @@ use Rattle.forest.specs.Forests.{planted}
 use Rattle.packing.proofs.Questions.{fair}
 use Rattle.packing.proofs.Planted.{tree_light, sow_more, sow_same}
 use Rattle.packing.proofs.planting.plant.Goals as goal
-use Rattle.packing.proofs.planting.plant.Goals.{then-plant-at, else-plant-at}
+use Rattle.packing.proofs.planting.plant.Goals.{then-plant_at, else-plant_at}
 
-pub plant-at-requires : goal.plant-at-requires
-plant-at-requires c =
+pub plant_at-requires : goal.plant_at-requires
+plant_at-requires c =
     let q = c.args.question.now in
     let v = c.loop-household.household in
     let S = c.loop-household.invariant.0 in
@@ -24,19 +24,19 @@ loop-household-preserved c =
     let v = c.loop-household.household in
     let S = c.loop-household.invariant.0 in
     let lt = c.loop-household-test.true in
-    elim c.if-plant-at.branch [
-      | then-plant-at w ↦
-          let n : c.if-plant-at.roots ≡ c.loop-household.roots + 1 = w.roots-is in (
-            subst (λ i. Sown (ground_of c.args.question.now) i c.plant-at.new.trees c.if-plant-at.roots) (sym (add-one v))
-                (subst (Sown (ground_of c.args.question.now) (suc c.loop-household.household) c.plant-at.new.trees) (sym n)
-                (sow_more (fair q) v lt c.loop-household.trees c.plant-at.new.trees c.loop-household.roots c.plant-at.result S c.plant-at.ensures w.if-plant-at.true)),
+    elim c.if-plant_at.branch [
+      | then-plant_at w ↦
+          let n : c.if-plant_at.roots ≡ c.loop-household.roots + 1 = w.roots-is in (
+            subst (λ i. Sown (ground_of c.args.question.now) i c.plant_at.new.trees c.if-plant_at.roots) (sym (add-one v))
+                (subst (Sown (ground_of c.args.question.now) (suc c.loop-household.household) c.plant_at.new.trees) (sym n)
+                (sow_more (fair q) v lt c.loop-household.trees c.plant_at.new.trees c.loop-household.roots c.plant_at.result S c.plant_at.ensures w.if-plant_at.true)),
             omega (arith, c.loop-household.invariant.1),
           )
-      | else-plant-at w ↦
-          let n : c.if-plant-at.roots ≡ c.loop-household.roots = w.roots-is in (
-            subst (λ i. Sown (ground_of c.args.question.now) i c.plant-at.new.trees c.if-plant-at.roots) (sym (add-one v))
-                (subst (Sown (ground_of c.args.question.now) (suc c.loop-household.household) c.plant-at.new.trees) (sym n)
-                (sow_same (fair q) v lt c.loop-household.trees c.plant-at.new.trees c.loop-household.roots c.plant-at.result S c.plant-at.ensures w.if-plant-at.false)),
+      | else-plant_at w ↦
+          let n : c.if-plant_at.roots ≡ c.loop-household.roots = w.roots-is in (
+            subst (λ i. Sown (ground_of c.args.question.now) i c.plant_at.new.trees c.if-plant_at.roots) (sym (add-one v))
+                (subst (Sown (ground_of c.args.question.now) (suc c.loop-household.household) c.plant_at.new.trees) (sym n)
+                (sow_same (fair q) v lt c.loop-household.trees c.plant_at.new.trees c.loop-household.roots c.plant_at.result S c.plant_at.ensures w.if-plant_at.false)),
             omega (arith, c.loop-household.invariant.1),
           )
     ]

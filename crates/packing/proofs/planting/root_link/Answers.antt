@@ -12,12 +12,12 @@ below_some n x k e lt = ap Some (sym e) ∙ sym (ap (λ b. cond b (Some x) None)
 below_none : (n x : ℕ) → n ≤ x → None ≡ below n x
 below_none n x le = sym (ap (λ b. cond b (Some x) None) (le-ltb x n le))
 
-pub returns-then-leads-home : goal.returns-then-leads-home
-returns-then-leads-home c =
+pub returns-then-leads_home : goal.returns-then-leads_home
+returns-then-leads_home c =
     let G = ground_of c.args.question.now in
     let k = c.loop-link.link in
     below_some G.links _ k
-    (first_is (leads G G.home (λ u. eqb u c.args.household)) G.links k c.loop-link-test.true (sym c.if-leads-home.ensures) c.loop-link.invariant)
+    (first_is (leads G G.home (λ u. eqb u c.args.household)) G.links k c.loop-link-test.true (sym c.if-leads_home.ensures) c.loop-link.invariant)
     c.loop-link-test.true
 
 pub returns : goal.returns

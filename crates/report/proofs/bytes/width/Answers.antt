@@ -3,8 +3,8 @@ use Rattle.std.proofs.lemmas.Fmt.{decimal_digit, decimal_step, length-decimal-le
 use Rattle.std.proofs.lemmas.List.{length-append}
 use Rattle.report.proofs.bytes.width.Goals as goal
 
-pub overflow-add-digits : goal.overflow-add-digits
-overflow-add-digits c = search (rules, length-decimal-le 20)
+pub overflow_add-digits : goal.overflow_add-digits
+overflow_add-digits c = search (rules, length-decimal-le 20)
 
 pub loop-left-preserved : goal.loop-left-preserved
 loop-left-preserved c = search (rules, decimal_step, length-append)

@@ -7,24 +7,24 @@ use Rattle.report.proofs.rows.write_row.Goals as goal
 pub put-at-requires : goal.put-at-requires
 put-at-requires c = search (rules, row_length)
 
-pub put-field-at-requires : goal.put-field-at-requires
-put-field-at-requires c = search (rules, row_length, length-append)
+pub put_field-at-requires : goal.put_field-at-requires
+put_field-at-requires c = search (rules, row_length, length-append)
 
-pub put-field-at-requires-2 : goal.put-field-at-requires-2
-put-field-at-requires-2 c = search (rules, row_length, length-append)
+pub put_field-at-requires-2 : goal.put_field-at-requires-2
+put_field-at-requires-2 c = search (rules, row_length, length-append)
 
-pub put-field-at-requires-3 : goal.put-field-at-requires-3
-put-field-at-requires-3 c = search (rules, row_length, length-append)
+pub put_field-at-requires-3 : goal.put_field-at-requires-3
+put_field-at-requires-3 c = search (rules, row_length, length-append)
 
-pub put-field-requires : goal.put-field-requires
-put-field-requires c = search (rules, row_length, length-append)
+pub put_field-requires : goal.put_field-requires
+put_field-requires c = search (rules, row_length, length-append)
 
 pub returns : goal.returns
 returns c =
-    let first = wrote_on c.put-at.ensures c.put-field-at.ensures in
-    let second = wrote_on first c.put-field-at-2.ensures in
-    let third = wrote_on second c.put-field-at-3.ensures in
-    let parts = wrote_on third c.put-field.ensures in
+    let first = wrote_on c.put-at.ensures c.put_field-at.ensures in
+    let second = wrote_on first c.put_field-at-2.ensures in
+    let third = wrote_on second c.put_field-at-3.ensures in
+    let parts = wrote_on third c.put_field.ensures in
     let text = wrote_as (row_parts c.args.names.now c.args.numbers (omega arith)) parts in
     let end = wrote_end text in
-    (end, omega (arith, c.if-out-row-length.false, c.row_length.ensures), wrote_whole text)
+    (end, omega (arith, c.if-out-row_length.false, c.row_length.ensures), wrote_whole text)

@@ -4,19 +4,19 @@ use Rattle.spelling.specs.Fields.{read_on}
 use Rattle.spelling.proofs.Digits.{digit_high, digit_small, read_step, read_stop, power_step, power_bound}
 use Rattle.sheets.proofs.fields.digits_after.Goals as goal
 
-pub returns-then-not-is-ascii-digit : goal.returns-then-not-is-ascii-digit
-returns-then-not-is-ascii-digit c =
-    sym (read_stop c.loop-digit.number _ _ c.loop-digit-test.true (sym c.if-not-is-ascii-digit.ensures.value)) ∙ c.loop-digit.invariant.0
+pub returns-then-not-is_ascii_digit : goal.returns-then-not-is_ascii_digit
+returns-then-not-is_ascii_digit c =
+    sym (read_stop c.loop-digit.number _ _ c.loop-digit-test.true (sym c.if-not-is_ascii_digit.ensures.value)) ∙ c.loop-digit.invariant.0
 
-pub overflow-mul-number : goal.overflow-mul-number
-overflow-mul-number c = search (rules, power_bound c.loop-digit.number c.loop-digit.digit-index)
+pub overflow_mul-number : goal.overflow_mul-number
+overflow_mul-number c = search (rules, power_bound c.loop-digit.number c.loop-digit.digit-index)
 
-pub overflow-add-number : goal.overflow-add-number
-overflow-add-number c = search (rules, power_bound c.loop-digit.number c.loop-digit.digit-index, digit_high)
+pub overflow_add-number : goal.overflow_add-number
+overflow_add-number c = search (rules, power_bound c.loop-digit.number c.loop-digit.digit-index, digit_high)
 
 pub loop-digit-preserved : goal.loop-digit-preserved
 loop-digit-preserved c =
-    let digit = sym c.if-not-is-ascii-digit.ensures.value in (
+    let digit = sym c.if-not-is_ascii_digit.ensures.value in (
       sym (read_step c.loop-digit.number _ _ c.loop-digit-test.true digit) ∙ c.loop-digit.invariant.0,
       power_step c.loop-digit.number _ _ c.loop-digit.invariant.1 (digit_small _ digit),
     )

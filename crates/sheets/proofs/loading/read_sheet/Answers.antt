@@ -18,7 +18,7 @@ returns-then-ne g c =
     let whole = unread_all _ _ _ c.new-reader.ensures.place c.new-reader.ensures.bytes in
     names_wrong g.K.SheetKind.kind (view c.args.parish.now) c.args.bytes.now (drop c.part.new.self.place c.new-reader.result.bytes.now) c.in-Some.names.now
     (ap (pieces 10) (sym whole) ∙ c.in-Some.ensures.parted.0)
-    (λ e. both_ways c.ne.ensures.0 other (decides.1 (e ∙ sym c.names-line.ensures)))
+    (λ e. both_ways c.ne.ensures.0 other (decides.1 (e ∙ sym c.names_line.ensures)))
     ∙ ap (λ s. Err (Line (WrongNames (record { sheet = s; line = 1 })))) (sym c.requires)
 
 pub returns : goal.returns
@@ -29,6 +29,6 @@ returns g c =
     let unread = ap (drop c.part.new.self.place) c.in-Some.ensures.bytes in
     let rest =
     names_right g.K.SheetKind.kind (view c.args.parish.now) c.args.bytes.now (drop c.part.new.self.place c.new-reader.result.bytes.now)
-    c.in-Some.names.now (ap (pieces 10) (sym whole) ∙ c.in-Some.ensures.parted.0) (decides.0 named ∙ c.names-line.ensures)
+    c.in-Some.names.now (ap (pieces 10) (sym whole) ∙ c.in-Some.ensures.parted.0) (decides.0 named ∙ c.names_line.ensures)
     ∙ ap (λ s. lines_read g.K.SheetKind.kind 2 (view c.args.parish.now) (pieces 10 s)) (sym unread) in
-    subst (λ o. Read o (view c.read-lines.new.parish) c.read-lines.result) (sym rest) c.read-lines.ensures
+    subst (λ o. Read o (view c.read_lines.new.parish) c.read_lines.result) (sym rest) c.read_lines.ensures

@@ -3,12 +3,12 @@ use Rattle.std.proofs.lemmas.Result.{err_from_is_err_and}
 use Rattle.spelling.proofs.Spelling.{load_good, load_bad}
 use Rattle.sheets.proofs.loading.read_whole.Goals as goal
 
-pub returns-in-err-read-both : goal.returns-in-err-read-both
-returns-in-err-read-both c =
+pub returns-in-err-read_both : goal.returns-in-err-read_both
+returns-in-err-read_both c =
     let p = err_from_is_err_and c.from-residual.result c.from-residual.ensures.1 in
-    rw (p.1, p.2) (load_bad c.args.households.now c.args.links.now _ c.in-err-read-both.ensures)
+    rw (p.1, p.2) (load_bad c.args.households.now c.args.links.now _ c.in-err-read_both.ensures)
 
 pub returns : goal.returns
 returns c =
-    load_good c.args.households.now c.args.links.now _ _ c.in-ok-read-both.ensures
+    load_good c.args.households.now c.args.links.now _ _ c.in-ok-read_both.ensures
     (let h = ap length c.households-households.ensures in let l = ap length c.links-links.ensures in cc)

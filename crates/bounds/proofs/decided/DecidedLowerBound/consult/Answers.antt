@@ -11,30 +11,30 @@ use Rattle.bounds.specs.Charges.{decided_most}
 use Rattle.bounds.proofs.Filling.{fill_step, filled}
 use Rattle.bounds.proofs.decided.DecidedLowerBound.consult.Goals as goal
 
-pub charge-of-charge-requires : goal.charge-of-charge-requires
-charge-of-charge-requires c =
+pub charge_of-charge-requires : goal.charge_of-charge-requires
+charge_of-charge-requires c =
     let j = link_joins c.args.parish.now c.links-links.result.now c.loop-k.k c.links-links.ensures c.loop-k-test.true in
-    let fit = c.if-not-lists-fit.ensures in
+    let fit = c.if-not-lists_fit.ensures in
     (omega (arith, j.0, fit.lots_fit.long), omega (arith, j.1, fit.lots_fit.long))
 
 -- a charge is no larger than a strength can be
-small : (c : goal.After-charge-of-charge) → c.charge-of-charge.result ≤ strongest_held
+small : (c : goal.After-charge_of-charge) → c.charge_of-charge.result ≤ strongest_held
 small c =
     let ls = c.links-links.result.now in
     let j = link_joins c.args.parish.now ls c.loop-k.k c.links-links.ensures c.loop-k-test.true in
-    omega (arith, j.4, decided_most c.args.lots.now (get_or ls c.loop-k.k no_link), c.charge-of-charge.ensures)
+    omega (arith, j.4, decided_most c.args.lots.now (get_or ls c.loop-k.k no_link), c.charge_of-charge.ensures)
 
-pub overflow-add-sum : goal.overflow-add-sum
-overflow-add-sum c = let s = small c in search rules
+pub overflow_add-sum : goal.overflow_add-sum
+overflow_add-sum c = let s = small c in search rules
 
 pub loop-k-preserved : goal.loop-k-preserved
 loop-k-preserved c =
     let ls = c.links-links.result.now in
     let k = c.loop-k.k in
     let f = decided_charge c.args.lots.now in
-    let e = c.charge-of-charge.ensures in
+    let e = c.charge_of-charge.ensures in
     let s = small c in (
-      fill_step 0 c.loop-k.charges (λ j. get_or (map f ls) j 0) k c.charge-of-charge.result (search rules) c.loop-k.invariant.0 (e ∙ sym (get_or-map f ls k no_link 0 c.loop-k-test.true)),
+      fill_step 0 c.loop-k.charges (λ j. get_or (map f ls) j 0) k c.charge_of-charge.result (search rules) c.loop-k.invariant.0 (e ∙ sym (get_or-map f ls k no_link 0 c.loop-k-test.true)),
       omega (arith, c.loop-k.invariant.1, e, sum_by_more f ls k no_link c.loop-k-test.true),
       omega (arith, c.loop-k.invariant.2, s),
     )
@@ -43,7 +43,7 @@ pub returns : goal.returns
 returns c =
     let ls = c.links-links.result.now in
     let f = decided_charge c.args.lots.now in
-    let fit = c.if-not-lists-fit.ensures in
+    let fit = c.if-not-lists_fit.ensures in
     let same : ls ≡ (view c.args.parish.now).links = c.links-links.ensures in
     record {
       fit = fit;

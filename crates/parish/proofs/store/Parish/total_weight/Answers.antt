@@ -6,8 +6,8 @@ use Rattle.parish.specs.declared.items.Household.{Household}
 use Rattle.parish.proofs.Viewed.{household_light}
 use Rattle.parish.proofs.store.Parish.total_weight.Goals as goal
 
-pub overflow-add-total : goal.overflow-add-total
-overflow-add-total c =
+pub overflow_add-total : goal.overflow_add-total
+overflow_add-total c =
     let light = household_light c.args.self.now _ _ c.households-households.ensures c.loop-household-test.true in
     search (rules, light)
 

@@ -11,8 +11,8 @@ returns-then-n-rest c =
           (part_none _ _ c.args.self.now.place c.args.self.now.bytes.now _ c.rest-rest.ensures c.if-n-rest.true c.position-n.ensures.before, refl);
     }
 
-pub invariant-of-self : goal.invariant-of-self
-invariant-of-self c =
+pub invariant_of-self : goal.invariant_of-self
+invariant_of-self c =
     let at = part_found _ _ c.args.self.now.place c.args.self.now.bytes.now _ c.rest-rest.ensures (omega arith) c.position-n.ensures.before (c.position-n.ensures.found (omega arith)) in
     (at.2, tt)
 
