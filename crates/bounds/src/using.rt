@@ -13,7 +13,7 @@ pub fn least_cost<B: LowerBound>(
     cap: u32,
     lots: &[u8],
 ) -> Result<u32, Refusal>
-    ensures { LeastCost (number bound.now) (view parish.now) «cap» lots.now result }
+    ensures { LeastCost (B.number bound.now) (view parish.now) «cap» lots.now result }
 {
     let mut scratch = [0; MOST_LINKS];
     let charges = &mut scratch[0..parish.links().len()];
@@ -28,7 +28,7 @@ fn least_cost_by<B: LowerBound>(
     charges: &mut [u32],
 ) -> Result<u32, Refusal>
     requires { length charges.old ≡ length (view parish.now).links }
-    ensures { LeastCost (number bound.now) (view parish.now) «cap» lots.now result }
+    ensures { LeastCost (B.number bound.now) (view parish.now) «cap» lots.now result }
 {
     bound.consult(parish, cap, lots, charges)
 }

@@ -10,7 +10,7 @@ pub loop-weight-preserved : goal.loop-weight-preserved
 loop-weight-preserved c =
     let ws = c.args.weights.now in
     let i = c.loop-weight.weight-index in
-    edited _ _ _ _ _ _ c.in-ok-add_household.ensures
+    edited _ _ _ _ _ _ c.in_ok-add_household.ensures
     ∙ ap (λ m. with_household m (unpinned (get_or ws i 0))) c.loop-weight.invariant
     ∙ ap (λ hs. record { households = hs; links = [] }) (sym (map_more unpinned ws i 0 c.loop-weight-test.true))
 
@@ -22,7 +22,7 @@ pub loop-link-preserved : goal.loop-link-preserved
 loop-link-preserved c =
     let ls = c.args.links.now in
     let k = c.loop-link.link-index in
-    edited _ _ _ _ _ _ c.in-ok-add_link.ensures
+    edited _ _ _ _ _ _ c.in_ok-add_link.ensures
     ∙ ap (λ m. with_link m (get_or ls k no_link)) c.loop-link.invariant
     ∙ ap (parish_of c.args.weights.now) (sym (take_more ls k no_link c.loop-link-test.true))
 

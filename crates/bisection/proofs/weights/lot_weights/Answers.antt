@@ -6,7 +6,7 @@ use Rattle.bisection.specs.Weights.{lot_weight}
 use Rattle.bisection.specs.declared.weights.LotWeights.{LotWeights}
 use Rattle.bisection.proofs.Steps.{weight_more, weight_done, fit_answers}
 use Rattle.bisection.proofs.weights.lot_weights.Goals as goal
-use Rattle.bisection.proofs.weights.lot_weights.Goals.{in-1, in-2, in-default}
+use Rattle.bisection.proofs.weights.lot_weights.Goals.{in-1, in-2, in_default}
 
 pub loop-k-preserved : goal.loop-k-preserved
 loop-k-preserved c =
@@ -20,7 +20,7 @@ loop-k-preserved c =
     elim c.match-lots-k.branch [
       | in-1 w ↦ grind (arith, nat_tests, a, b, light, w.a-is, w.b-is, w.in-1, c.loop-k.invariant)
       | in-2 w ↦ grind (arith, nat_tests, a, b, light, w.a-is, w.b-is, w.in-2, c.loop-k.invariant)
-      | in-default w ↦ grind (arith, nat_tests, a, b, light, w.a-is, w.b-is, w.in-default, c.loop-k.invariant)
+      | in_default w ↦ grind (arith, nat_tests, a, b, light, w.a-is, w.b-is, w.in_default, c.loop-k.invariant)
     ]
 
 pub returns : goal.returns

@@ -17,7 +17,7 @@ add_flow-sent-requires g c =
     let p = c.args.parish.now in
     let m = view p in
     let lots = c.args.lots.now in
-    let a = c.in-ok-number.ensures in
+    let a = c.in_ok-number.ensures in
     let b = g.met.B.LowerBound.bounds c.args.below.now m c.args.cap lots (parish_sound p) a.fit.lots_fit in
     record {
       fit = a.fit.lots_fit;
@@ -31,13 +31,13 @@ overflow_add-result g c =
     let m = view p in
     let lots = c.args.lots.now in
     let limit = c.args.cap in
-    let a = c.in-ok-number.ensures in
+    let a = c.in_ok-number.ensures in
     let s = c.args.below.now in
     let below : Meaning = record { number = g.B.LowerBound.number s; charges = g.B.LowerBound.charge s } in
     let b = g.met.B.LowerBound.bounds s m limit lots (parish_sound p) a.fit.lots_fit in
     let most = numbers_fit m limit lots _ _ (parish_sound p) (flow_bounds below m limit lots (parish_sound p) a.fit.lots_fit b) in
     let sent = c.add_flow-sent.ensures.sent ∙ ap (λ (xs : List ℕ). least_cut m lots (left_of m.links xs)) a.fills in
-    let fits : c.in-ok-number.number + c.add_flow-sent.result ≤ strongest_held * most_links = omega (arith, most.0, a.says, sent) in
+    let fits : c.in_ok-number.number + c.add_flow-sent.result ≤ strongest_held * most_links = omega (arith, most.0, a.says, sent) in
     search rules
 
 pub returns : goal.returns
@@ -45,7 +45,7 @@ returns g c =
     let p = c.args.parish.now in
     let m = view p in
     let lots = c.args.lots.now in
-    let a = c.in-ok-number.ensures in
+    let a = c.in_ok-number.ensures in
     record {
       fit = a.fit;
       says = omega (arith, a.says, c.add_flow-sent.ensures.sent ∙ ap (λ (xs : List ℕ). least_cut m lots (left_of m.links xs)) a.fills);
