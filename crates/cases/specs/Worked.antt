@@ -1,9 +1,8 @@
--- The worked cases: those that speak of no packing. Assumes nothing.
+-- The worked cases: those that speak of no flow and no packing. Assumes nothing.
 use Rattle.std.specs.Prelude.{◌≡◌, ℕ, List, [], ◌∷◌, Some, None, Option}
 use Rattle.parish.specs.Model.{Model, no_model}
 use Rattle.parish.specs.Weights.{total_weight, cap_at}
 use Rattle.bisection.specs.Meanings.{Meaning, bare, decided}
-use Rattle.flows.specs.Layers.{flow_over}
 use Rattle.cases.specs.Parishes.{free, link, worked, priced_answer, steps_over}
 
 -- two households of weight 1 and a link between them
@@ -32,6 +31,3 @@ pub record WorkedCases : Type 0 where
   pub two_alike : Ends bare pair 100 (Some (1 ∷ 2 ∷ [], 1)) 7
   pub two_uneven : Ends bare uneven 100 None 3
   pub nobody : Ends bare no_model 100 (Some ([], 0)) 1
-  -- with household 0 in A and household 3 in B, at the cap of tolerance 0
-  pub flow_number : (flow_over bare).number worked 5 (1 ∷ 0 ∷ 0 ∷ 2 ∷ []) ≡ 2
-  pub flow_charges : (flow_over bare).charges worked 5 (1 ∷ 0 ∷ 0 ∷ 2 ∷ []) ≡ 1 ∷ 1 ∷ 1 ∷ 1 ∷ []

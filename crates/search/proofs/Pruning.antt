@@ -10,10 +10,9 @@ use Rattle.parish.specs.declared.items.Lot.TheVariants.{A, B}
 use Rattle.bisection.specs.Lots.{pins}
 use Rattle.bisection.specs.Weights.{balanced}
 use Rattle.bisection.specs.Costs.{cost}
-use Rattle.bisection.specs.Answers.{answer}
 use Rattle.bisection.specs.Meanings.{Number}
 use Rattle.bounds.specs.Bounds.{Lower}
-use Rattle.search.specs.Nodes.{free, lots_of, incumbent, closed, standing}
+use Rattle.search.specs.Nodes.{free, lots_of, incumbent, closed}
 use Rattle.search.specs.Walking.{Walked, to_beat, better, prunes, walk_from, pruned_walk}
 use Rattle.search.specs.Words.{PrunedSearchLaw}
 use Rattle.search.proofs.Kept.{map_same}

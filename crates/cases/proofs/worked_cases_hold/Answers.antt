@@ -14,6 +14,4 @@ returns c = record {
   two_alike = record { answers = refl; in_steps = refl };
   two_uneven = record { answers = refl; in_steps = refl };
   nobody = record { answers = refl; in_steps = refl };
-  flow_number = refl;
-  flow_charges = refl;
 }
