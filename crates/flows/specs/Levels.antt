@@ -2,7 +2,7 @@
 -- number order. A link that leads, with room that way, from a household of the level to one not yet reached either ends a
 -- path, where that one is set in B: then as much is sent along the path as it has room for; or it reaches that one, at the
 -- next level. The search goes on to the next level where nothing was sent and some household was reached. Assumes nothing.
-use Rattle.std.specs.Prelude.{ℕ, zero, suc, ◌+◌, ◌-◌, Bool, true, false, cond, ◌&&◌, List, [], ◌∷◌, map, length, set, Some, None, Option, ◌==◌, nat_lt, slice_index, slice_index_or, slice_set}
+use Rattle.std.specs.Prelude.{ℕ, zero, suc, ◌+◌, ◌-◌, Bool, true, false, cond, ◌&&◌, List, [], ◌∷◌, map, length, Some, None, Option, ◌==◌, nat_lt, slice_index, slice_index_or, slice_set}
 use Rattle.parish.specs.Model.{Model}
 use Rattle.parish.specs.declared.items.Link.{Link}
 use Rattle.flows.specs.declared.items.Arc.{Arc}
