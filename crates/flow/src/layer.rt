@@ -42,7 +42,9 @@ fn consult_over<B: LowerBound>(
     lots: &[u8],
     charges: &mut [u32],
 ) -> Result<u32, Refusal>
-    ensures { Consulted (flow_over (record { number = number below.now; charges = charge below.now })).number (flow_over (record { number = number below.now; charges = charge below.now })).charges (view parish.now) «cap» lots.now charges.old charges.new result }
+    ensures { Consulted (flow_over (record { number = B.number below.now; charges = B.charge below.now })).number
+        (flow_over (record { number = B.number below.now; charges = B.charge below.now })).charges
+        (view parish.now) «cap» lots.now charges.old charges.new result }
 {
     let number = below.consult(parish, cap, lots, charges)?;
     let sent = add_flow(parish, lots, charges);

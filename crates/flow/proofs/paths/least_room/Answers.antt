@@ -20,14 +20,14 @@ pub arc_to-arc-requires : goal.arc_to-arc-requires
 arc_to-arc-requires c =
     record {
       reached = c.loop-level.invariant.reached;
-      there = link_there c.args.links.now c.args.marks.now (c.args.depth - c.loop-level.-level) (c.args.depth - (c.loop-level.-level + 1)) c.loop-level.household (omega arith) c.loop-level.invariant.there;
+      there = link_there c.args.links.now c.args.marks.now (c.args.depth - c.loop-level._level) (c.args.depth - (c.loop-level._level + 1)) c.loop-level.household (omega arith) c.loop-level.invariant.there;
     }
 
 -- the arc at hand is there
 arc_there : (c : goal.After-arc_to-arc) → c.arc_to-arc.result.link < length c.args.links.now
 arc_there c =
     subst (λ (a : Arc). a.link < length c.args.links.now) (sym c.arc_to-arc.ensures)
-    (link_there c.args.links.now c.args.marks.now (c.args.depth - c.loop-level.-level) (c.args.depth - (c.loop-level.-level + 1)) c.loop-level.household (omega arith) c.loop-level.invariant.there)
+    (link_there c.args.links.now c.args.marks.now (c.args.depth - c.loop-level._level) (c.args.depth - (c.loop-level._level + 1)) c.loop-level.household (omega arith) c.loop-level.invariant.there)
 
 pub lesser-least-requires : goal.lesser-least-requires
 lesser-least-requires c =
@@ -42,18 +42,18 @@ lesser-least-requires c =
 pub tail-household-requires-in-loop-level : goal.tail-household-requires-in-loop-level
 tail-household-requires-in-loop-level c =
     subst (λ (a : Arc). a.link < length c.args.links.now) (sym c.arc_to-arc.ensures)
-    (link_there c.args.links.now c.args.marks.now (c.args.depth - c.loop-level.-level) (c.args.depth - (c.loop-level.-level + 1)) c.loop-level.household (omega arith) c.loop-level.invariant.there)
+    (link_there c.args.links.now c.args.marks.now (c.args.depth - c.loop-level._level) (c.args.depth - (c.loop-level._level + 1)) c.loop-level.household (omega arith) c.loop-level.invariant.there)
 
 pub loop-level-preserved : goal.loop-level-preserved
 loop-level-preserved c =
-    measuring_more c.args.links.now c.args.marks.now (c.args.depth - c.loop-level.-level) (c.args.depth - (c.loop-level.-level + 1)) c.loop-level.household (omega arith)
+    measuring_more c.args.links.now c.args.marks.now (c.args.depth - c.loop-level._level) (c.args.depth - (c.loop-level._level + 1)) c.loop-level.household (omega arith)
     c.arc_to-arc.result c.tail-household-in-loop-level.result c.arc_to-arc.ensures c.tail-household-in-loop-level.ensures c.requires.network.ends
     c.args.left.now c.args.room.now c.loop-level.least c.lesser-least.result _ c.loop-level.invariant c.lesser-least.ensures
 
 pub returns : goal.returns
 returns c =
     let f = room_of c.args.left.now c.args.room.now in
-    let none = path_none c.args.links.now c.args.marks.now (c.args.depth - c.loop-level.-level) c.loop-level.household (omega arith) in
+    let none = path_none c.args.links.now c.args.marks.now (c.args.depth - c.loop-level._level) c.loop-level.household (omega arith) in
     sym (ap (least f c.loop-level.least) none)
     ∙ c.loop-level.invariant.goes_on
     ∙ ap₂ (λ x v. least (room_of c.args.left.now c.args.room.now) x (path_back c.args.links.now c.args.marks.now (c.args.depth - 1) v)) c.room_of-least.ensures c.tail-household.ensures

@@ -7,5 +7,5 @@ use Rattle.flow.proofs.paths.least_room.Given as goal
 
 abbrev pub invariant-loop-level : goal.invariant-loop-level
 invariant-loop-level l =
-    Measuring l.links l.left l.room l.marks (l.depth - l.-level) l.least l.household
+    Measuring l.links l.left l.room l.marks (l.depth - l._level) l.least l.household
     (least (room_of l.left l.room) l.initial.least (path_back l.links l.marks (l.depth - 1) l.initial.household))

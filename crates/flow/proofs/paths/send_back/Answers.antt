@@ -22,14 +22,14 @@ pub arc_to-arc-requires : goal.arc_to-arc-requires
 arc_to-arc-requires c =
     record {
       reached = c.loop-level.invariant.reached;
-      there = link_there c.args.links.now c.args.marks.now (c.args.depth - c.loop-level.-level) (c.args.depth - (c.loop-level.-level + 1)) c.loop-level.household (omega arith) c.loop-level.invariant.sendable.there;
+      there = link_there c.args.links.now c.args.marks.now (c.args.depth - c.loop-level._level) (c.args.depth - (c.loop-level._level + 1)) c.loop-level.household (omega arith) c.loop-level.invariant.sendable.there;
     }
 
 pub send_along-requires-in-loop-level : goal.send_along-requires-in-loop-level
 send_along-requires-in-loop-level c =
     let ls = c.args.links.now in
     let a = c.arc_to-arc.result in
-    let o = walking_open ls c.args.marks.now (c.args.depth - c.loop-level.-level) (c.args.depth - (c.loop-level.-level + 1)) c.loop-level.household (omega arith) a (tail ls a) c.arc_to-arc.ensures refl c.requires.ends
+    let o = walking_open ls c.args.marks.now (c.args.depth - c.loop-level._level) (c.args.depth - (c.loop-level._level + 1)) c.loop-level.household (omega arith) a (tail ls a) c.arc_to-arc.ensures refl c.requires.ends
     c.loop-level.room c.args.amount _ c.loop-level.invariant in
     record {
       there = omega (arith, o.there.0, c.loop-level.auto.room, c.requires.room_long);
@@ -40,17 +40,17 @@ send_along-requires-in-loop-level c =
 pub tail-household-requires-in-loop-level : goal.tail-household-requires-in-loop-level
 tail-household-requires-in-loop-level c =
     subst (λ (a : Arc). a.link < length c.args.links.now) (sym c.arc_to-arc.ensures)
-    (link_there c.args.links.now c.args.marks.now (c.args.depth - c.loop-level.-level) (c.args.depth - (c.loop-level.-level + 1)) c.loop-level.household (omega arith) c.loop-level.invariant.sendable.there)
+    (link_there c.args.links.now c.args.marks.now (c.args.depth - c.loop-level._level) (c.args.depth - (c.loop-level._level + 1)) c.loop-level.household (omega arith) c.loop-level.invariant.sendable.there)
 
 pub loop-level-preserved : goal.loop-level-preserved
 loop-level-preserved c =
-    walking_more c.args.links.now c.args.marks.now (c.args.depth - c.loop-level.-level) (c.args.depth - (c.loop-level.-level + 1)) c.loop-level.household (omega arith)
+    walking_more c.args.links.now c.args.marks.now (c.args.depth - c.loop-level._level) (c.args.depth - (c.loop-level._level + 1)) c.loop-level.household (omega arith)
     c.arc_to-arc.result c.tail-household-in-loop-level.result c.arc_to-arc.ensures c.tail-household-in-loop-level.ensures c.requires.ends
     c.loop-level.room c.args.amount _ c.send_along-in-loop-level.new.room c.loop-level.invariant c.send_along-in-loop-level.ensures
 
 pub returns : goal.returns
 returns c =
-    let none = path_none c.args.links.now c.args.marks.now (c.args.depth - c.loop-level.-level) c.loop-level.household (omega arith) in
+    let none = path_none c.args.links.now c.args.marks.now (c.args.depth - c.loop-level._level) c.loop-level.household (omega arith) in
     sym (ap (send_all c.args.amount c.loop-level.room) none)
     ∙ c.loop-level.invariant.goes_on
     ∙ ap₂ (λ (r : List ℕ) (v : ℕ). send_all c.args.amount r (path_back c.args.links.now c.args.marks.now (c.args.depth - 1) v)) c.send_along.ensures c.tail-household.ensures
