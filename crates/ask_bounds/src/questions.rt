@@ -5,7 +5,7 @@
 // They are the name of a stack of bounds, the cap, the weight of each household, the lots, a digit each, and the links, each
 // with its two ends and its strength. Weights have a blank between them, links a comma. No household has a pin: a bound does
 // not look at pins.
-use anyhow::anyhow;
+use anyhow::{Context, anyhow};
 use parish::Link;
 use std::alloc::Global;
 
@@ -22,11 +22,11 @@ const TOO_FEW: &str = "a question has fewer than five parts";
 
 pub(crate) fn read(heap: Global, line: &str) -> anyhow::Result<Question<'_>> {
     let mut parts = line.split(';');
-    let stack = parts.next().ok_or(TOO_FEW)?;
-    let cap = parts.next().ok_or(TOO_FEW)?.parse::<u32>()?;
-    let weights = numbers_of(heap, parts.next().ok_or(TOO_FEW)?)?;
-    let lots = lots_of(heap, parts.next().ok_or(TOO_FEW)?)?;
-    let links = links_of(heap, parts.next().ok_or(TOO_FEW)?)?;
+    let stack = parts.next().context(TOO_FEW)?;
+    let cap = parts.next().context(TOO_FEW)?.parse::<u32>()?;
+    let weights = numbers_of(heap, parts.next().context(TOO_FEW)?)?;
+    let lots = lots_of(heap, parts.next().context(TOO_FEW)?)?;
+    let links = links_of(heap, parts.next().context(TOO_FEW)?)?;
     if parts.next().is_some() {
         return Err(anyhow!("a question has more than five parts"));
     }

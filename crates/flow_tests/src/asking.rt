@@ -44,8 +44,17 @@ pub(super) fn tells<B: LowerBound>(
     number: u32,
     charges: &[u32],
 ) -> Result<(), Fail> {
-    tells_under(rt, bound, parish, 0, lots, number, charges).note("at cap 0")?;
-    tells_under(rt, bound, parish, u32::MAX, lots, number, charges).note("at the largest cap")
+    tells_under(rt, bound, parish, 0, lots, number, charges, "at cap 0")?;
+    tells_under(
+        rt,
+        bound,
+        parish,
+        u32::MAX,
+        lots,
+        number,
+        charges,
+        "at the largest cap",
+    )
 }
 
 fn tells_under<B: LowerBound>(
@@ -56,12 +65,13 @@ fn tells_under<B: LowerBound>(
     lots: &[u8],
     number: u32,
     charges: &[u32],
+    case: &str,
 ) -> Result<(), Fail> {
     assert!(rt; charges.len() <= MOST_LINKS);
     let mut scratch = [9; MOST_LINKS];
     let told = &mut scratch[0..charges.len()];
-    assert_eq!(rt; bound.consult(parish, cap, lots, told)?, number);
-    assert!(rt; &told[..] == charges, "charges");
+    assert_eq!(rt; bound.consult(parish, cap, lots, told)?, number, "{case}");
+    assert!(rt; &told[..] == charges, "{case}: charges");
     Ok(())
 }
 
@@ -72,14 +82,16 @@ pub(super) fn refuses<B: LowerBound>(
     parish: &Parish,
     lots: &[u8],
     count: usize,
+    case: &str,
 ) -> Result<(), Fail> {
     assert!(rt; count <= 8);
     let mut scratch = [9; 8];
     let told = &mut scratch[0..count];
     assert_eq!(rt;
         bound.consult(parish, 5, lots, told),
-        Err(Refusal::WrongList)
+        Err(Refusal::WrongList),
+        "{case}"
     );
-    assert!(rt; scratch == [9; 8], "charges");
+    assert!(rt; scratch == [9; 8], "{case}: charges");
     Ok(())
 }

@@ -20,14 +20,14 @@ fn refuses_wrong_lists<B: LowerBound>(
     bound: &B,
     parish: &Parish,
 ) -> Result<(), Fail> {
-    refuses(rt, bound, parish, &[1, 0, 2], 4).note("a lot too few")?;
-    refuses(rt, bound, parish, &[1, 0, 0, 2, 0], 4).note("a lot too many")?;
-    refuses(rt, bound, parish, &[], 4).note("no lot")?;
-    refuses(rt, bound, parish, &[1, 0, 0, 3], 4).note("a lot above 2")?;
-    refuses(rt, bound, parish, &[255, 0, 0, 2], 4).note("the largest byte")?;
-    refuses(rt, bound, parish, &[1, 0, 0, 2], 3).note("a charge too few")?;
-    refuses(rt, bound, parish, &[1, 0, 0, 2], 5).note("a charge too many")?;
-    refuses(rt, bound, parish, &[1, 0, 0, 2], 0).note("no charge")
+    refuses(rt, bound, parish, &[1, 0, 2], 4, "a lot too few")?;
+    refuses(rt, bound, parish, &[1, 0, 0, 2, 0], 4, "a lot too many")?;
+    refuses(rt, bound, parish, &[], 4, "no lot")?;
+    refuses(rt, bound, parish, &[1, 0, 0, 3], 4, "a lot above 2")?;
+    refuses(rt, bound, parish, &[255, 0, 0, 2], 4, "the largest byte")?;
+    refuses(rt, bound, parish, &[1, 0, 0, 2], 3, "a charge too few")?;
+    refuses(rt, bound, parish, &[1, 0, 0, 2], 5, "a charge too many")?;
+    refuses(rt, bound, parish, &[1, 0, 0, 2], 0, "no charge")
 }
 
 #[test]
@@ -35,6 +35,6 @@ fn no_household(rt: HostRuntime) -> Result<(), Fail> {
     let parish = parish_of(rt.alloc(), 0, &[])?;
     tells(&rt, &Flow(Bare), &parish, &[], 0, &[])?;
     tells(&rt, &Flow(Flow(Decided)), &parish, &[], 0, &[])?;
-    refuses(&rt, &Flow(Bare), &parish, &[0], 0).note("a lot too many")?;
-    refuses(&rt, &Flow(Bare), &parish, &[], 1).note("a charge too many")
+    refuses(&rt, &Flow(Bare), &parish, &[0], 0, "a lot too many")?;
+    refuses(&rt, &Flow(Bare), &parish, &[], 1, "a charge too many")
 }

@@ -1,7 +1,6 @@
-use Rattle.std.proofs.Common.{◌≡◌, [], get_or, sym, ap, ◌∙◌}
+use Rattle.std.proofs.Common.{[], get_or, sym, ap, ◌∙◌}
 use Rattle.std.proofs.lemmas.List.{map_more, take_more, take_all}
 use Rattle.parish.specs.Model.{no_link, with_household, with_link}
-use Rattle.parish.specs.View.{view}
 use Rattle.ask_bounds.specs.Parishes.{unpinned, parish_of}
 use Rattle.ask_bounds.proofs.Edited.{edited}
 use Rattle.ask_bounds.proofs.answers.fill.Goals as goal

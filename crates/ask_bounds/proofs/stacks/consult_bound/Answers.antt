@@ -1,4 +1,4 @@
-use Rattle.std.proofs.Common.{◌≡◌, ℕ, List, Ok, Err, Result, sym, subst}
+use Rattle.std.proofs.Common.{ℕ, List, Ok, Err, Result, sym, subst}
 use Rattle.parish.specs.Model.{Model}
 use Rattle.parish.specs.View.{view}
 use Rattle.parish.specs.declared.refusals.Refusal.{Refusal}
