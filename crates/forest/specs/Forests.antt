@@ -1,5 +1,5 @@
 -- Trees, and how they grow. Assumes nothing.
-use Rattle.std.specs.Prelude.{◌≡◌, ℕ, zero, suc, ◌<◌, ◌≤◌, Bool, true, false, cond, not, ◌&&◌, ◌||◌, ◌⊎◌, List, set, replicate, ◌==◌, nat_eq, nat_le, nat_lt, slice_index, slice_set}
+use Rattle.std.specs.Prelude.{◌≡◌, ℕ, zero, suc, ◌<◌, ◌≤◌, Bool, true, false, cond, not, ◌&&◌, ◌||◌, ◌⊎◌, List, replicate, ◌==◌, nat_eq, nat_le, nat_lt, slice_index, slice_set}
 use Rattle.forest.specs.Searches.{first, all_below}
 use Rattle.forest.specs.Grounds.{Ground, leads, weight_of}
 
