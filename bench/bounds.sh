@@ -2,13 +2,8 @@
 # How long a lower bound with a flow takes, in microseconds, on standard error: first in the proved program, then in its
 # unproved twin in Rust. Ends with status 1 where the two do not print the same sums.
 cd "$(dirname "$0")/.." || exit 1
-bench=target/bin/bench_bounds
+bench=$(tools/built bench_bounds) || exit 1
 twin=target/twin/bounds
-if [ ! -x "$bench" ]; then
-    # Without its stamp the program is linked again, even where nothing has changed.
-    rm -f target/stamp/bench_bounds
-    rt check bench_bounds || exit 1
-fi
 mkdir -p target/twin && rustc --edition 2021 -O -o "$twin" bench/twin/bounds.rs || exit 1
 echo 'proved:' >&2
 proved=$("$bench") || exit 1

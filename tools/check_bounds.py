@@ -182,10 +182,10 @@ def main():
     parser = argparse.ArgumentParser(description='Checks lower bounds by enumeration.')
     parser.add_argument('--count', type=int, default=2000, help='how many questions')
     parser.add_argument('--seed', type=int, default=1)
-    parser.add_argument('--program', type=Path, default=Path(__file__).parent.parent / 'target/bin/ask_bounds')
+    parser.add_argument('--program', type=Path, default=Path(__file__).parent.parent / 'crates/ask_bounds/out/ask_bounds')
     options = parser.parse_args()
     if not options.program.exists():
-        sys.exit(f'{options.program} is not there yet: rt check ask_bounds makes it')
+        sys.exit(f'{options.program} is not there yet: tools/built ask_bounds makes it')
     rng = random.Random(options.seed)
     questions = [random_question(rng) for _ in range(options.count)]
     for question, lines in zip(questions, ask(options.program, questions)):
