@@ -1,6 +1,6 @@
 -- Growing tree by tree: one link taken, one tree closed, none left. Assumes nothing.
 use Rattle.std.proofs.Common.{◌≡◌, ℕ, suc, ◌+◌, ◌-◌, ◌<◌, ◌≤◌, Bool, true, false, cond, ◌&&◌, ◌⊎◌, List, length, get_or, set, sym, refl, ap, ◌∙◌, subst, ap₂, inl, inr, arith, length-set, get_or-set_other, get_or-set_same}
-use Rattle.std.proofs.lemmas.Bool.{cases_eq, cases_Bool, lt-ltb, le-ltb, both_ways, cond-true, cond-false}
+use Rattle.std.proofs.lemmas.Bool.{cases_eq, cases_Bool, lt-ltb, le-ltb, both_ways}
 use Rattle.forest.specs.Searches.{count_below}
 use Rattle.forest.specs.Grounds.{Ground, leads}
 use Rattle.forest.specs.Forests.{Forest, is_root, joined, planted, inside, outside, grow_link, can_grow, far_end, lightest, grow, grown, forest, tree_weight}

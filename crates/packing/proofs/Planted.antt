@@ -1,10 +1,9 @@
 -- Planting household by household. Assumes nothing.
-use Rattle.std.proofs.Common.{◌≡◌, ℕ, zero, suc, ◌+◌, ◌*◌, ◌<◌, ◌≤◌, Bool, true, false, cond, ◌&&◌, eqb, ltb, List, length, get_or, set, replicate, sym, refl, ap, ◌∙◌, ap₂, inl, inr, arith, length-set, get_or-set_other, get_or-set_same}
+use Rattle.std.proofs.Common.{◌≡◌, ℕ, zero, suc, ◌+◌, ◌*◌, ◌<◌, ◌≤◌, Bool, true, false, ◌&&◌, ltb, List, length, get_or, set, replicate, sym, refl, ap, ◌∙◌, ap₂, inl, inr, arith, length-set, get_or-set_other, get_or-set_same}
 use Rattle.std.proofs.lemmas.List.{length-replicate}
-use Rattle.std.proofs.lemmas.Bool.{cases_eq, cases_lt, cases_Bool, and_from, and_left, and_right, ne_eqb, lt-ltb, le-ltb, cond-true, cond-false}
+use Rattle.std.proofs.lemmas.Bool.{cases_eq, cases_lt, and_from, and_left, and_right, ne_eqb, lt-ltb, le-ltb, cond-true, cond-false}
 use Rattle.parish.specs.Limits.{most_households, heaviest_held}
 use Rattle.bounds.proofs.Indexed.{sum_below_same, sum_below_none}
-use Rattle.forest.specs.Searches.{count_below}
 use Rattle.forest.specs.Grounds.{Ground}
 use Rattle.forest.specs.Forests.{Forest, is_root, root_link, joined, no_tree, plant, planted, tree_weight}
 use Rattle.forest.proofs.Trees.{Fair, planted_right, get_or_zeros}

@@ -1,7 +1,6 @@
 -- What every question keeps. Assumes nothing.
-use Rattle.std.proofs.Common.{◌≡◌, ℕ, ◌+◌, ◌-◌, ◌*◌, ◌<◌, ◌≤◌, Bool, true, false, cond, ◌&&◌, ◌||◌, eqb, List, [], length, get_or, sym, refl, ap, ◌∙◌, arith}
+use Rattle.std.proofs.Common.{◌≡◌, ℕ, ◌+◌, ◌<◌, ◌≤◌, Bool, true, false, cond, ◌&&◌, ◌||◌, eqb, List, [], get_or, sym, refl, ap, ◌∙◌, arith}
 use Rattle.std.proofs.lemmas.Bool.{cond_both, ne_eqb, eqb-true}
-use Rattle.std.proofs.lemmas.Bool.Decides.{nat_tests}
 use Rattle.parish.specs.Limits.{heaviest_held}
 use Rattle.parish.specs.Lots.{lot_byte}
 use Rattle.parish.specs.Model.{no_household, no_link}
@@ -9,8 +8,8 @@ use Rattle.parish.specs.declared.items.Lot.{Lot}
 use Rattle.parish.specs.declared.items.Lot.TheVariants.{A, B}
 use Rattle.bounds.specs.Sums.{sum_below}
 use Rattle.bounds.proofs.Indexed.{sum_below_same, sum_below_add}
-use Rattle.forest.specs.Grounds.{Ground, other, weight_of}
-use Rattle.forest.specs.Forests.{Forest, outside}
+use Rattle.forest.specs.Grounds.{other, weight_of}
+use Rattle.forest.specs.Forests.{outside}
 use Rattle.forest.proofs.Trees.{Fair}
 use Rattle.packing.specs.declared.question.Question.{Question}
 use Rattle.packing.specs.Grounded.{ground_of}

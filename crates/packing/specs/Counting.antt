@@ -1,5 +1,5 @@
 -- What counting trees asks. Assumes nothing.
-use Rattle.std.specs.Prelude.{◌≡◌, ℕ, ◌<◌, ◌≤◌, Bool, cond, ◌&&◌, ◌||◌, List, length, Some, None, Option, ◌==◌, slice_index}
+use Rattle.std.specs.Prelude.{◌≡◌, ℕ, ◌<◌, ◌≤◌, Bool, cond, ◌&&◌, ◌||◌, List, Some, None, Option, ◌==◌, slice_index}
 use Rattle.bounds.specs.Sums.{sum_below}
 use Rattle.forest.specs.Searches.{count_below}
 use Rattle.forest.specs.Grounds.{Ground}

@@ -3,9 +3,9 @@ ghost use Rattle.std.specs.Prelude.{◌≡◌, ℕ, ◌<◌, ◌≤◌, [], leng
 ghost use Rattle.parish.specs.Limits.{most_households};
 ghost use Rattle.parish.specs.Lots.{lot_byte};
 ghost use Rattle.forest.specs.Grounds.{other};
-ghost use Rattle.forest.specs.Fewest.{target as target-of};
+ghost use Rattle.forest.specs.Fewest.{target as target_of};
 ghost use Rattle.packing.specs.Grounded.{ground_of};
-ghost use Rattle.packing.specs.Counting.{weight_off as off-weight, Heaviest, Counted};
+ghost use Rattle.packing.specs.Counting.{weight_off as off_weight, Heaviest, Counted};
 
 use super::question::Question;
 use bisection::UNSET;
@@ -25,7 +25,7 @@ fn away(question: &Question) -> u8
 fn weight_off(question: &Question, tree: &[u8], household: usize) -> u32
     requires sized { length tree.now ≡ (ground_of question.now).households }
     requires there { household < (ground_of question.now).households }
-    ensures { result ≡ off-weight (ground_of question.now) tree.now household }
+    ensures { result ≡ off_weight (ground_of question.now) tree.now household }
 {
     let lot = question.lots[household];
     if lot == away(question) || lot == UNSET && tree[household] == 0 {
@@ -38,7 +38,7 @@ fn weight_off(question: &Question, tree: &[u8], household: usize) -> u32
 // What the trees that are hit must weigh at least, where a lot weighs at least so much.
 pub(crate) fn target(question: &Question, tree: &[u8], least: u32) -> u32
     requires { length tree.now ≡ (ground_of question.now).households }
-    ensures { result ≡ target-of (ground_of question.now) (record { tree = tree.entry.now; taken = [] }) least }
+    ensures { result ≡ target_of (ground_of question.now) (record { tree = tree.entry.now; taken = [] }) least }
 {
     let mut off = 0;
     for household in 0..question.households.len() {

@@ -9,7 +9,8 @@ ghost use Rattle.forest.specs.Grounds.{ground_for};
 ghost use Rattle.forest.specs.Layers.{packed_charges, packed_number, packing_over};
 ghost use Rattle.packing.specs.Grounded.{ground_of};
 ghost use Rattle.packing.specs.Stands.{Sized};
-ghost use Rattle.std.proofs.Common.{rules};
+ghost use Rattle.bisection.specs.Meanings.{Meaning};
+ghost use Rattle.forest.proofs.Theorems.{packing_bounds};
 
 use super::counting::{fewest, target};
 use super::growing::grow;
@@ -33,7 +34,9 @@ impl<B: LowerBound> LowerBound for Packing<B> {
 
     ghost charge = { λ s. (packing_over s.home (record { number = B.LowerBound.number s.below; charges = B.LowerBound.charge s.below })).charges };
 
-    ghost bounds = { Prim.search rules };
+    ghost bounds = { λ s m limit lots sound ok.
+        let below : Meaning = record { number = B.LowerBound.number s.below; charges = B.LowerBound.charge s.below } in
+        packing_bounds s.home below m limit lots sound ok (B.LowerBound.bounds s.below m limit lots sound ok) };
 
     fn consult(
         &self,
@@ -55,7 +58,9 @@ fn consult_over<B: LowerBound>(
     lots: &[u8],
     charges: &mut [u32],
 ) -> Result<u32, Refusal>
-    ensures { Consulted (packing_over home (record { number = number below.now; charges = charge below.now })).number (packing_over home (record { number = number below.now; charges = charge below.now })).charges (view parish.now) «cap» lots.now charges.old charges.new result }
+    ensures { Consulted (packing_over home (record { number = B.number below.now; charges = B.charge below.now })).number
+        (packing_over home (record { number = B.number below.now; charges = B.charge below.now })).charges
+        (view parish.now) «cap» lots.now charges.old charges.new result }
 {
     let number = below.consult(parish, cap, lots, charges)?;
     let more = add_packing(parish, home, cap, lots, charges);

@@ -10,10 +10,10 @@ returns-in_default c = counting_short c.loop-left.invariant c.args.trees c.loop-
 
 pub loop-left-preserved : goal.loop-left-preserved
 loop-left-preserved c =
-    let most = c.in_Some.ensures in
-    counting_more c.loop-left.invariant c.in_Some.place c.saturating_sub-left.result (omega (arith, most.0, c.loop-left.auto.weights)) most.1
+    let most = c.in-Some.ensures in
+    counting_more c.loop-left.invariant c.in-Some.place c.saturating_sub-left.result (omega (arith, most.0, c.loop-left.auto.weights)) most.1
     (λ k l. most.2 k (omega (arith, c.loop-left.auto.weights))) c.loop-left-test.true c.saturating_sub-left.ensures
-    (length-set c.loop-left.weights c.in_Some.place 0 ∙ c.loop-left.auto.weights)
+    (length-set c.loop-left.weights c.in-Some.place 0 ∙ c.loop-left.auto.weights)
 
 pub returns : goal.returns
 returns c = counting_done c.loop-left.invariant c.args.trees (omega (arith, c.loop-left-test.false))

@@ -1,4 +1,3 @@
-use Rattle.std.proofs.Common.{◌≡◌, ℕ, ◌<◌, ◌≤◌, get_or}
 use Rattle.packing.specs.Counting.{Heaviest}
 use Rattle.packing.proofs.counting.heaviest.Given as goal
 

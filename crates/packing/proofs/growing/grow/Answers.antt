@@ -1,6 +1,5 @@
-use Rattle.std.proofs.Common.{◌≡◌, ℕ, ◌<◌, ◌≤◌, false, length, set, sym, refl, ap, ◌∙◌, subst, arith, below_more}
-use Rattle.forest.specs.Grounds.{leads}
-use Rattle.forest.specs.Forests.{Forest, inside, outside}
+use Rattle.std.proofs.Common.{◌≡◌, ℕ, ◌<◌, false, length, set, sym, refl, ap, ◌∙◌, subst, arith, below_more}
+use Rattle.forest.specs.Forests.{outside}
 use Rattle.forest.specs.Searches.{count_below}
 use Rattle.packing.specs.declared.trees.Trees.{Trees}
 use Rattle.packing.specs.Grounded.{ground_of}
@@ -23,23 +22,23 @@ pub join-requires : goal.join-requires
 join-requires c =
     let q = c.args.question.now in
     let S = subst (Stand (ground_of c.args.question.now)) (sym c.loop-link.invariant.0) c.loop-root.invariant.0 in
-    let b = lightest_at c.loop-link.trees c.loop-root.trees c.in_Some.root c.loop-link.invariant.0 c.in_Some.ensures in
-    let there : c.in_Some.root < (ground_of c.args.question.now).households = omega (arith, b.there, S.sized.lives) in
+    let b = lightest_at c.loop-link.trees c.loop-root.trees c.in-Some.root c.loop-link.invariant.0 c.in-Some.ensures in
+    let there : c.in-Some.root < (ground_of c.args.question.now).households = omega (arith, b.there, S.sized.lives) in
     record {
       sized = S.sized;
-      household = c.in_Some-far_end.ensures.3;
+      household = c.in-Some-far_end.ensures.3;
       root = there;
       link = c.loop-link-test.true;
-      light = omega (arith, S.weighs c.in_Some.root there, tree_light q (forest_of c.loop-link.trees) c.in_Some.root);
+      light = omega (arith, S.weighs c.in-Some.root there, tree_light q (forest_of c.loop-link.trees) c.in-Some.root);
     }
 
 pub grow-smaller : goal.grow-smaller
 grow-smaller c =
     let G = ground_of c.args.question.now in
     let S = subst (Stand (ground_of c.args.question.now)) (sym c.loop-link.invariant.0) c.loop-root.invariant.0 in
-    let b = lightest_at c.loop-link.trees c.loop-root.trees c.in_Some.root c.loop-link.invariant.0 c.in_Some.ensures in
-    let far = c.in_Some-far_end.ensures in
-    let fewer = takes_fewer (fair c.args.question.now) c.loop-link.trees S c.in_Some.root b c.loop-link.link c.in_Some-far_end.household c.join.new.trees
+    let b = lightest_at c.loop-link.trees c.loop-root.trees c.in-Some.root c.loop-link.invariant.0 c.in-Some.ensures in
+    let far = c.in-Some-far_end.ensures in
+    let fewer = takes_fewer (fair c.args.question.now) c.loop-link.trees S c.in-Some.root b c.loop-link.link c.in-Some-far_end.household c.join.new.trees
     c.loop-link-test.true far.0 c.loop-link.invariant.1 far.1 c.join.ensures in
     let same : left_out G c.loop-link.trees ≡ left_out G c.grow.trees =
     ap (λ F. count_below (outside G F) G.households) (ap forest_of c.loop-link.invariant.0 ∙ c.loop-root.invariant.1) in
@@ -48,9 +47,9 @@ grow-smaller c =
 pub grow-preserved : goal.grow-preserved
 grow-preserved c =
     let S = subst (Stand (ground_of c.args.question.now)) (sym c.loop-link.invariant.0) c.loop-root.invariant.0 in
-    let b = lightest_at c.loop-link.trees c.loop-root.trees c.in_Some.root c.loop-link.invariant.0 c.in_Some.ensures in
-    let far = c.in_Some-far_end.ensures in
-    takes (fair c.args.question.now) c.loop-link.trees S c.in_Some.root b c.loop-link.link c.in_Some-far_end.household c.join.new.trees
+    let b = lightest_at c.loop-link.trees c.loop-root.trees c.in-Some.root c.loop-link.invariant.0 c.in-Some.ensures in
+    let far = c.in-Some-far_end.ensures in
+    takes (fair c.args.question.now) c.loop-link.trees S c.in-Some.root b c.loop-link.link c.in-Some-far_end.household c.join.new.trees
     c.loop-link-test.true far.0 c.loop-link.invariant.1 far.1 c.join.ensures
 
 pub loop-link-preserved : goal.loop-link-preserved
@@ -58,15 +57,15 @@ loop-link-preserved c = (c.loop-link.invariant.0, below_more _ _ c.loop-link.inv
 
 pub loop-root-smaller : goal.loop-root-smaller
 loop-root-smaller c =
-    let b = c.in_Some.ensures in
-    let same : alive (set c.loop-link.trees.live.now c.in_Some.root false) ≡ alive (set c.loop-root.trees.live.now c.in_Some.root false) =
-    ap (λ (t : Trees). alive (set t.live.now c.in_Some.root false)) c.loop-link.invariant.0 in
-    omega (arith, fewer_alive c.loop-root.trees.live.now c.in_Some.root b.there b.lives, same)
+    let b = c.in-Some.ensures in
+    let same : alive (set c.loop-link.trees.live.now c.in-Some.root false) ≡ alive (set c.loop-root.trees.live.now c.in-Some.root false) =
+    ap (λ (t : Trees). alive (set t.live.now c.in-Some.root false)) c.loop-link.invariant.0 in
+    omega (arith, fewer_alive c.loop-root.trees.live.now c.in-Some.root b.there b.lives, same)
 
 pub loop-root-preserved : goal.loop-root-preserved
 loop-root-preserved c =
     let S = subst (Stand (ground_of c.args.question.now)) (sym c.loop-link.invariant.0) c.loop-root.invariant.0 in (
-      closes c.loop-link.trees _ S c.in_Some.root (λ j l. c.loop-link.invariant.1 j (omega (arith, c.loop-link-test.false))) refl refl refl,
+      closes c.loop-link.trees _ S c.in-Some.root (λ j l. c.loop-link.invariant.1 j (omega (arith, c.loop-link-test.false))) refl refl refl,
       ap forest_of c.loop-link.invariant.0 ∙ c.loop-root.invariant.1,
     )
 

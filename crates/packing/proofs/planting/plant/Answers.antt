@@ -1,4 +1,4 @@
-use Rattle.std.proofs.Common.{◌≡◌, ℕ, suc, ◌+◌, ◌≤◌, sym, ◌∙◌, subst, add-one, arith}
+use Rattle.std.proofs.Common.{◌≡◌, suc, ◌+◌, sym, subst, add-one, arith}
 use Rattle.packing.specs.Grounded.{ground_of}
 use Rattle.packing.specs.Stands.{Sown}
 use Rattle.forest.specs.Forests.{planted}
