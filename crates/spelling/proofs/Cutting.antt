@@ -4,7 +4,7 @@ use borrow.Author.Tests.{eqb-false}
 use Rattle.std.proofs.ByRecursion.{All-from_get_or}
 use Rattle.std.proofs.lemmas.List.{drop-drop, drop_more, get_or_past, get_or-take, length-drop, length-take-le, take-append-drop}
 use Rattle.std.specs.List.{AllByRecursion as All}
-use Rattle.spelling.specs.Pieces.{onto, pieces, glued, Lacks, Cut, PiecesAreTheCut, numbered}
+use Rattle.spelling.specs.Pieces.{onto, pieces, glued, Lacks, PiecesAreTheCut, numbered}
 
 -- there is always a first piece
 onto_some : (x : ℕ) (ps : List (List ℕ)) → 0 < length (onto x ps)

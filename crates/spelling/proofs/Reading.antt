@@ -1,6 +1,6 @@
 -- Reading a sheet of any lawful kind: it succeeds just where the sheet spells records that the parish can take, and else
 -- gives the first fault. Assumes nothing.
-use Rattle.std.proofs.Common.{◌≡◌, ℕ, zero, suc, ◌+◌, ◌<◌, ◌≤◌, Bool, true, false, cond, eqb, ◌⊎◌, List, [], ◌∷◌, ◌++◌, length, get_or, Some, None, Ok, Err, Option, Result, sym, refl, ap, ◌∙◌, subst, inl, inr, ⊎_elim, arith, eq-eqb, ne_eqb, eqb-true}
+use Rattle.std.proofs.Common.{◌≡◌, ℕ, zero, suc, ◌+◌, ◌<◌, Bool, true, false, cond, eqb, ◌⊎◌, List, [], ◌∷◌, ◌++◌, length, get_or, Some, None, Ok, Err, Option, Result, sym, refl, ap, ◌∙◌, subst, inl, inr, ⊎_elim, arith, eq-eqb, ne_eqb, eqb-true}
 use borrow.Author.Tests.{eqb-false, clash}
 use Rattle.std.proofs.ByRecursion.{All-append}
 use Rattle.std.proofs.lemmas.List.{append_assoc, append-nil}
@@ -19,7 +19,7 @@ use Rattle.faults.specs.declared.Place.{Place}
 use Rattle.spelling.specs.Fields.{same}
 use Rattle.spelling.specs.Kinds.{Kind}
 use Rattle.spelling.specs.Laws.{line_of, sheet_of, never, Plain, Opens, LineFails, unended, miscounted, unwanted, refused, SheetFails, misnamed, bad_line}
-use Rattle.spelling.specs.Lines.{and_then, raised, first_unwanted, line_fault, place_of, spelt, spelt_by, accepted, line_read, tail_read, lines_read, all_read, sheet_read}
+use Rattle.spelling.specs.Lines.{and_then, raised, first_unwanted, line_fault, place_of, spelt, spelt_by, accepted, line_read, lines_read, all_read, sheet_read}
 use Rattle.spelling.specs.Pieces.{pieces, glued, Lacks}
 use Rattle.spelling.proofs.Cutting.{pieces_some, pieces_lack, pieces_free, pieces_at, pieces_glued, pieces_whole, glued_pieces}
 use Rattle.spelling.proofs.Digits.{same_true, same_self, same_decides, differ}
