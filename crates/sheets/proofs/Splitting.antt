@@ -1,5 +1,5 @@
 -- Fields cut out of a line one after another, into places that are filled from the front. Assumes nothing.
-use Rattle.std.proofs.Common.{◌≡◌, ℕ, ◌+◌, ◌<◌, ◌≤◌, true, false, eqb, List, [], ◌∷◌, ◌++◌, map, length, take, drop, set, sym, refl, ap, ◌∙◌, arith, Bor, eq-eqb, ne_eqb}
+use Rattle.std.proofs.Common.{◌≡◌, ℕ, ◌+◌, ◌<◌, ◌≤◌, true, false, eqb, List, [], ◌∷◌, ◌++◌, map, length, take, set, sym, ap, ◌∙◌, arith, Bor, eq-eqb, ne_eqb}
 use Rattle.std.proofs.lemmas.List.{append_assoc, append-nil, length-append, length-map, length-set, length-take-le, map_push, take_all, take_more_set}
 use Rattle.spelling.specs.Pieces.{pieces}
 use Rattle.spelling.proofs.Cutting.{pieces_some}

@@ -20,6 +20,7 @@ pub const LINKS: &[u8] = b"from,to,strength\n0,1,4\n1,2,1\n2,3,4\n0,3,1\n";
 
 #[derive(Clone, Copy)]
 struct Case<'a> {
+    line: &'a str,
     what: &'a str,
     households: &'a str,
     links: &'a str,
@@ -50,7 +51,7 @@ fn run_lines(
 ) -> Result<(), Fail> {
     let mut ran: usize = 0;
     for line in table.lines() {
-        run_case(rt, heap, parish, spare, case_of(line)).note(line)?;
+        run_case(rt, heap, parish, spare, case_of(line))?;
         ran = ran.wrapping_add(1);
     }
     assert_eq!(rt; ran, count, "cases");
@@ -68,6 +69,7 @@ fn case_of(line: &str) -> Case<'_> {
         count = count.wrapping_add(1);
     }
     Case {
+        line,
         what: fields[0],
         households: fields[1],
         links: fields[2],
@@ -109,12 +111,13 @@ fn run_sheets(
         Some(fault) => Err(fault),
         None => sheets::read(parish, spare, households, links),
     };
+    let line = case.line;
     assert!(rt;
         spare.households().len() == 0 && spare.links().len() == 0,
-        "spare parish"
+        "spare parish: {line}"
     );
     match loaded {
-        Ok(counts) => check_load(rt, heap, parish, counts, households, links, case.told),
+        Ok(counts) => check_load(rt, heap, parish, counts, households, links, case),
         Err(fault) => check_refused(
             rt,
             heap,
@@ -134,12 +137,14 @@ fn check_load(
     counts: Counts,
     households: &[u8],
     links: &[u8],
-    told: &str,
+    case: Case<'_>,
 ) -> Result<(), Fail> {
+    let line = case.line;
     let cap = parish.weight_cap(0)?;
+    let most = parish.weight_cap(1_000)?;
     assert!(rt;
-        parish.weight_cap(1_000)? == cap.wrapping_mul(2),
-        "cap with the most slack"
+        most == cap.wrapping_mul(2),
+        "cap with the most slack: {line}"
     );
     let summary = Summary {
         households: counts.households,
@@ -153,11 +158,11 @@ fn check_load(
         rt,
         heap,
         "households,links,weight,cap$=$",
-        told,
+        case,
         &out,
         length,
     )?;
-    check_parish(rt, heap, parish, households, links)
+    check_parish(rt, heap, parish, households, links, case)
 }
 
 // What is told and reported of a fault, and that the parish is still the worked one.
@@ -169,30 +174,28 @@ fn check_refused(
     spot: &[u8],
     case: Case<'_>,
 ) -> Result<(), Fail> {
-    check_told(rt, fault, numbers_of(case.told));
+    check_told(rt, fault, case);
     let mut out = [0; 80];
     let length = fault.report(&mut out)?;
-    check_report(
-        rt,
-        heap,
-        "refused,sheet,line,field$=$",
-        case.told,
-        &out,
-        length,
-    )?;
-    check_spot(rt, heap, spot, case.spot)?;
-    check_parish(rt, heap, parish, HOUSEHOLDS, LINKS)
+    check_report(rt, heap, "refused,sheet,line,field$=$", case, &out, length)?;
+    check_spot(rt, heap, spot, case)?;
+    check_parish(rt, heap, parish, HOUSEHOLDS, LINKS, case)
 }
 
-fn check_told(rt: &impl Abort, fault: LoadFault, numbers: [usize; 4]) {
+fn check_told(rt: &impl Abort, fault: LoadFault, case: Case<'_>) {
+    let line = case.line;
     let told = [
         fault.refusal().number() as usize,
         fault.sheet() as usize,
         fault.line(),
         fault.field(),
     ];
-    assert_eq!(rt; told, numbers, "number, sheet, line, field");
-    assert_eq!(rt; fault.layer(), layer_of(fault), "layer");
+    assert_eq!(rt;
+        told,
+        numbers_of(case.told),
+        "number, sheet, line, field: {line}"
+    );
+    assert_eq!(rt; fault.layer(), layer_of(fault), "layer: {line}");
 }
 
 // The layer that finds a fault.
@@ -208,21 +211,23 @@ fn check_report(
     rt: &impl Abort,
     heap: Global,
     names: &str,
-    told: &str,
+    case: Case<'_>,
     out: &[u8],
     length: usize,
 ) -> Result<(), Fail> {
-    let text = bytes_of(heap, names, told.as_bytes())?;
+    let line = case.line;
+    let text = bytes_of(heap, names, case.told.as_bytes())?;
     assert!(rt;
         length == text.len() && out.starts_with(text.as_slice()),
-        "report"
+        "report: {line}"
     );
     Ok(())
 }
 
-fn check_spot(rt: &impl Abort, heap: Global, spot: &[u8], text: &str) -> Result<(), Fail> {
-    let bytes = bytes_of(heap, text, b"")?;
-    assert!(rt; spot == bytes.as_slice(), "spot");
+fn check_spot(rt: &impl Abort, heap: Global, spot: &[u8], case: Case<'_>) -> Result<(), Fail> {
+    let line = case.line;
+    let bytes = bytes_of(heap, case.spot, b"")?;
+    assert!(rt; spot == bytes.as_slice(), "spot: {line}");
     Ok(())
 }
 
@@ -262,13 +267,15 @@ fn check_parish(
     parish: &Parish,
     households: &[u8],
     links: &[u8],
+    case: Case<'_>,
 ) -> Result<(), Fail> {
+    let line = case.line;
     let mut text = String::new(heap);
     write_households(&mut text, parish.households())?;
-    assert!(rt; text.as_bytes() == households, "households");
+    assert!(rt; text.as_bytes() == households, "households: {line}");
     text.clear();
     write_links(&mut text, parish.links())?;
-    assert!(rt; text.as_bytes() == links, "links");
+    assert!(rt; text.as_bytes() == links, "links: {line}");
     Ok(())
 }
 

@@ -13,14 +13,14 @@ const WORKED: Summary = Summary {
 fn the_rest_stays(rt: HostRuntime) {
     let mut out = [b'x'; 40];
     assert_eq!(rt; WORKED.report(&mut out), Ok(37));
-    assert!(rt; &out[..] == b"households,links,weight,cap\n4,4,10,5\nxxx");
+    assert!(rt; &out[..] == b"households,links,weight,cap\n4,4,10,5\nxxx".as_slice());
 }
 
 #[test]
 fn just_room_enough(rt: HostRuntime) {
     let mut out = [0; 37];
     assert_eq!(rt; WORKED.report(&mut out), Ok(37));
-    assert!(rt; &out[..] == b"households,links,weight,cap\n4,4,10,5\n");
+    assert!(rt; &out[..] == b"households,links,weight,cap\n4,4,10,5\n".as_slice());
 }
 
 #[test]

@@ -3,8 +3,8 @@ use Rattle.std.proofs.Common.{◌≡◌, ℕ, ◌+◌, ◌-◌, ◌<◌, ◌≤�
 use borrow.Author.Tests.{eqb-false}
 use Rattle.std.proofs.ByRecursion.{All-from_get_or}
 use Rattle.std.proofs.lemmas.List.{drop-drop, drop_more, get_or_past, get_or-take, length-drop, length-take-le, take-append-drop}
-use Rattle.std.specs.List.{AllByRecursion as All}
-use Rattle.spelling.specs.Pieces.{onto, pieces, glued, Lacks, Cut, PiecesAreTheCut, numbered}
+use Rattle.std.specs.List.{AllByRecursion}
+use Rattle.spelling.specs.Pieces.{onto, pieces, glued, Lacks, PiecesAreTheCut, numbered}
 
 -- there is always a first piece
 onto_some : (x : ℕ) (ps : List (List ℕ)) → 0 < length (onto x ps)
@@ -38,23 +38,23 @@ glued_pieces b (x ∷ xs) =
     ] refl
 
 -- no piece has the separator
-onto_lacks : (b x : ℕ) (ps : List (List ℕ)) → (x ≡ b → ⊥) → All (Lacks b) ps → All (Lacks b) (onto x ps)
+onto_lacks : (b x : ℕ) (ps : List (List ℕ)) → (x ≡ b → ⊥) → AllByRecursion (Lacks b) ps → AllByRecursion (Lacks b) (onto x ps)
 onto_lacks b x [] ne all = ((ne, tt), tt)
 onto_lacks b x (p ∷ ps) ne all = ((ne, all.0), all.1)
 
-pub pieces_lack : (b : ℕ) (s : List ℕ) → All (Lacks b) (pieces b s)
+pub pieces_lack : (b : ℕ) (s : List ℕ) → AllByRecursion (Lacks b) (pieces b s)
 pieces_lack b [] = (tt, tt)
 pieces_lack b (x ∷ xs) =
-    elim (eqb x b) as (λ t. eqb x b ≡ t → All (Lacks b) (cond t ([] ∷ pieces b xs) (onto x (pieces b xs)))) [
+    elim (eqb x b) as (λ t. eqb x b ≡ t → AllByRecursion (Lacks b) (cond t ([] ∷ pieces b xs) (onto x (pieces b xs)))) [
       | true ↦ λ e. (tt, pieces_lack b xs)
       | false ↦ λ e. onto_lacks b x (pieces b xs) (eqb-false x b e) (pieces_lack b xs)
     ] refl
 
 -- nor a byte that the text lacks
-pub pieces_free : (b c : ℕ) (s : List ℕ) → Lacks c s → All (Lacks c) (pieces b s)
+pub pieces_free : (b c : ℕ) (s : List ℕ) → Lacks c s → AllByRecursion (Lacks c) (pieces b s)
 pieces_free b c [] l = (tt, tt)
 pieces_free b c (x ∷ xs) l =
-    elim (eqb x b) as (λ t. All (Lacks c) (cond t ([] ∷ pieces b xs) (onto x (pieces b xs)))) [
+    elim (eqb x b) as (λ t. AllByRecursion (Lacks c) (cond t ([] ∷ pieces b xs) (onto x (pieces b xs)))) [
       | true ↦ (tt, pieces_free b c xs l.1)
       | false ↦ onto_lacks c x (pieces b xs) l.0 (pieces_free b c xs l.1)
     ]
@@ -72,7 +72,7 @@ pieces_whole b [] l = refl
 pieces_whole b (x ∷ p) l =
     ap (λ t. cond t ([] ∷ pieces b p) (onto x (pieces b p))) (ne_eqb x b l.0) ∙ ap (onto x) (pieces_whole b p l.1)
 
-pub pieces_glued : (b : ℕ) (ps : List (List ℕ)) → 0 < length ps → All (Lacks b) ps → pieces b (glued b ps) ≡ ps
+pub pieces_glued : (b : ℕ) (ps : List (List ℕ)) → 0 < length ps → AllByRecursion (Lacks b) ps → pieces b (glued b ps) ≡ ps
 pieces_glued b [] h all = absurd (let z : ⊥ = omega arith in z)
 pieces_glued b (p ∷ []) h all = pieces_whole b p all.0
 pieces_glued b (p ∷ (q ∷ ps)) h all =

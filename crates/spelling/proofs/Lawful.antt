@@ -1,16 +1,15 @@
 -- Both kinds of sheet are lawful. Assumes nothing.
-use Rattle.std.proofs.Common.{◌≡◌, ℕ, suc, ◌+◌, ◌^◌, ◌<◌, ◌≤◌, Bool, true, false, cond, not, ◌&&◌, ◌||◌, eqb, ltb, leb, List, [], ◌∷◌, ◌++◌, map, length, get_or, is_some, Some, None, Err, codes, decimal, Option, unwrap_or, sym, refl, ap, ◌∙◌, subst, arith, Bor, ltb-false, le-ltb, ne_eqb, leb-false}
+use Rattle.std.proofs.Common.{◌≡◌, ℕ, ◌^◌, ◌<◌, ◌≤◌, Bool, true, false, cond, not, ◌&&◌, ◌||◌, eqb, ltb, leb, List, [], ◌∷◌, ◌++◌, map, length, get_or, is_some, Some, None, Err, codes, decimal, Option, unwrap_or, sym, refl, ap, ◌∙◌, subst, arith, Bor, ltb-false, le-ltb, ne_eqb, leb-false}
 use borrow.Author.Tests.{eqb-false, lt-leb, not-true, clash}
 use Rattle.std.proofs.lemmas.List.{append_assoc, append-nil, get_or_at, length-append, length_push}
 use Rattle.std.proofs.lemmas.Bool.{and_parts, or_parts, or_from}
 use Rattle.std.specs.Option.{option_map}
 use Rattle.parish.proofs.Kept.{weights_push, joined_push, joined_among_more}
-use Rattle.parish.specs.declared.items.Household.{Household}
 use Rattle.parish.specs.declared.items.Link.{Link}
 use Rattle.parish.specs.declared.refusals.Refusal.{Refusal}
 use Rattle.parish.specs.Edits.{Edited, answer_by, left_by, link_table}
 use Rattle.parish.specs.Limits.{Joins}
-use Rattle.parish.specs.Model.{Model, Sound}
+use Rattle.parish.specs.Model.{Model}
 use Rattle.parish.specs.Refusals.{first_applying}
 use Rattle.spelling.specs.Fields.{number_of, pin_of, pin_field}
 use Rattle.spelling.specs.Kinds.{households_kind, links_kind, blamed_in_link}

@@ -1,12 +1,12 @@
 -- Reading a sheet of any lawful kind: it succeeds just where the sheet spells records that the parish can take, and else
 -- gives the first fault. Assumes nothing.
-use Rattle.std.proofs.Common.{◌≡◌, ℕ, zero, suc, ◌+◌, ◌<◌, ◌≤◌, Bool, true, false, cond, eqb, ◌⊎◌, List, [], ◌∷◌, ◌++◌, length, get_or, Some, None, Ok, Err, Option, Result, sym, refl, ap, ◌∙◌, subst, inl, inr, ⊎_elim, arith, eq-eqb, ne_eqb, eqb-true}
+use Rattle.std.proofs.Common.{◌≡◌, ℕ, zero, suc, ◌+◌, ◌<◌, Bool, true, false, cond, eqb, ◌⊎◌, List, [], ◌∷◌, ◌++◌, length, get_or, Some, None, Ok, Err, Option, Result, sym, refl, ap, ◌∙◌, subst, inl, inr, ⊎_elim, arith, eq-eqb, ne_eqb, eqb-true}
 use borrow.Author.Tests.{eqb-false, clash}
 use Rattle.std.proofs.ByRecursion.{All-append}
 use Rattle.std.proofs.lemmas.List.{append_assoc, append-nil}
 use Rattle.std.proofs.lemmas.Bool.{cond-true, cond-false}
 use Rattle.std.specs.Option.{option_map}
-use Rattle.std.specs.List.{flat_map, AllByRecursion as All}
+use Rattle.std.specs.List.{flat_map, AllByRecursion}
 use Rattle.parish.specs.declared.refusals.Refusal.{Refusal}
 use Rattle.parish.specs.Edits.{answer_by}
 use Rattle.parish.specs.Model.{Model, Sound}
@@ -19,7 +19,7 @@ use Rattle.faults.specs.declared.Place.{Place}
 use Rattle.spelling.specs.Fields.{same}
 use Rattle.spelling.specs.Kinds.{Kind}
 use Rattle.spelling.specs.Laws.{line_of, sheet_of, never, Plain, Opens, LineFails, unended, miscounted, unwanted, refused, SheetFails, misnamed, bad_line}
-use Rattle.spelling.specs.Lines.{and_then, raised, first_unwanted, line_fault, place_of, spelt, spelt_by, accepted, line_read, tail_read, lines_read, all_read, sheet_read}
+use Rattle.spelling.specs.Lines.{and_then, raised, first_unwanted, line_fault, place_of, spelt, spelt_by, accepted, line_read, lines_read, all_read, sheet_read}
 use Rattle.spelling.specs.Pieces.{pieces, glued, Lacks}
 use Rattle.spelling.proofs.Cutting.{pieces_some, pieces_lack, pieces_free, pieces_at, pieces_glued, pieces_whole, glued_pieces}
 use Rattle.spelling.proofs.Digits.{same_true, same_self, same_decides, differ}
@@ -31,7 +31,7 @@ pub record LawfulKind {R : Type 0} (K : Kind R) : Type 0 where
   -- the line of a record that a parish accepts is as wanted, and writes it
   pub back : (m : Model) (r : R) → Sound m → K.refusal m r ≡ None
       → (length (K.fields r) ≡ length K.wanted) × (first_unwanted 1 K.wanted (K.fields r) ≡ None) × (K.value (K.fields r) ≡ r)
-      × All Plain (K.fields r)
+      × AllByRecursion Plain (K.fields r)
   pub named : Lacks 10 K.names
   pub some : 0 < length K.wanted
   -- what is accepted keeps the limits, and what keeps them was accepted
@@ -160,15 +160,15 @@ module _ (ws : List (List ℕ → Bool)) (p : Place) (fs : List (List ℕ)) wher
         | false ↦ λ t s. inl (eqb-false (length fs) (length ws) t, let z : d ≡ WrongCount p = cc in z)
       ] refl e
 
-plain_from : (ps : List (List ℕ)) → All (Lacks 44) ps → All (Lacks 10) ps → All Plain ps
+plain_from : (ps : List (List ℕ)) → AllByRecursion (Lacks 44) ps → AllByRecursion (Lacks 10) ps → AllByRecursion Plain ps
 plain_from [] a b = tt
 plain_from (p ∷ ps) a b = ((a.0, b.0), plain_from ps a.1 b.1)
 
-plain_commas : (ps : List (List ℕ)) → All Plain ps → All (Lacks 44) ps
+plain_commas : (ps : List (List ℕ)) → AllByRecursion Plain ps → AllByRecursion (Lacks 44) ps
 plain_commas [] a = tt
 plain_commas (p ∷ ps) a = (a.0.0, plain_commas ps a.1)
 
-glued_plain : (ps : List (List ℕ)) → All Plain ps → Lacks 10 (glued 44 ps)
+glued_plain : (ps : List (List ℕ)) → AllByRecursion Plain ps → Lacks 10 (glued 44 ps)
 glued_plain [] a = tt
 glued_plain (p ∷ []) a = a.0.1
 glued_plain (p ∷ (q ∷ ps)) a = All-append (λ x. x ≡ 10 → ⊥) p (44 ∷ glued 44 (q ∷ ps)) a.0.1 ((λ e. omega arith), glued_plain (q ∷ ps) a.1)
@@ -340,7 +340,7 @@ module _ {R : Type 0} (K : Kind R) (lawful : LawfulKind K) where
       )
 
   -- else the lines before the first bad one are those of records
-  lines_err : (n : ℕ) (m : Model) (ps : List (List ℕ)) (f : LoadFault) → Sound m → 0 < length ps → All (Lacks 10) ps → lines_read K n m ps ≡ Err f
+  lines_err : (n : ℕ) (m : Model) (ps : List (List ℕ)) (f : LoadFault) → Sound m → 0 < length ps → AllByRecursion (Lacks 10) ps → lines_read K n m ps ≡ Err f
       → (good : List R) × (rest : List ℕ) × (glued 10 ps ≡ lines_of good ++ rest) × Sound (K.with_more m good)
       × ((k : ℕ) × (k ≡ length good + n) × LineFails K (K.with_more m good) (place_of K k) rest f)
   lines_err n m [] f sound some free e = absurd (let z : ⊥ = omega arith in z)
@@ -428,7 +428,7 @@ module _ {R : Type 0} (K : Kind R) (lawful : LawfulKind K) where
       ] refl e
 
   -- pieces that open with the names line are those of a sheet that does
-  misnamed_by : (m : Model) (ps : List (List ℕ)) (f : LoadFault) → 0 < length ps → All (Lacks 10) ps
+  misnamed_by : (m : Model) (ps : List (List ℕ)) (f : LoadFault) → 0 < length ps → AllByRecursion (Lacks 10) ps
       → ((rest : List ℕ) → ps ≡ K.names ∷ pieces 10 rest → ⊥) → ◌≡◌ {A = Result Model LoadFault} (Err (Line (WrongNames (place_of K 1)))) (Err f)
       → SheetFails K m (glued 10 ps) f
   misnamed_by m ps f some free not_named e =
@@ -438,7 +438,7 @@ module _ {R : Type 0} (K : Kind R) (lawful : LawfulKind K) where
       (λ rest opens. not_named rest
       (sym (pieces_glued 10 ps some free) ∙ ap (pieces 10) opens ∙ pieces_at 10 K.names rest lawful.named)))
 
-  all_err : (m : Model) (ps : List (List ℕ)) (f : LoadFault) → Sound m → 0 < length ps → All (Lacks 10) ps → all_read K m ps ≡ Err f → SheetFails K m (glued 10 ps) f
+  all_err : (m : Model) (ps : List (List ℕ)) (f : LoadFault) → Sound m → 0 < length ps → AllByRecursion (Lacks 10) ps → all_read K m ps ≡ Err f → SheetFails K m (glued 10 ps) f
   all_err m [] f sound some free e = absurd (let z : ⊥ = omega arith in z)
   all_err m (p ∷ []) f sound some free e =
       misnamed_by m (p ∷ []) f some free

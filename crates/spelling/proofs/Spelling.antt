@@ -1,5 +1,5 @@
 -- A load: it gives a parish just where the two sheets spell it within its limits, and else the first fault. Assumes nothing.
-use Rattle.std.proofs.Common.{◌≡◌, ℕ, ◌<◌, List, [], ◌∷◌, ◌++◌, length, Ok, Err, Result, sym, refl, ap, ◌∙◌, subst, ⊎_elim, arith}
+use Rattle.std.proofs.Common.{◌≡◌, ℕ, List, [], Ok, Err, sym, ap, ◌∙◌, subst, ⊎_elim, arith}
 use Rattle.parish.specs.Model.{Model, Sound, no_model}
 use Rattle.spelling.specs.declared.counts.Counts.{Counts}
 use Rattle.faults.specs.declared.LoadFault.{LoadFault}

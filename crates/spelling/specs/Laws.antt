@@ -1,6 +1,6 @@
 -- What a load means, in plain words: how a parish is spelled, and which fault is the first. Assumes nothing.
 use Rattle.std.specs.Prelude.{◌≡◌, ℕ, ◌+◌, ◌<◌, Bool, true, false, List, [], ◌∷◌, ◌++◌, length, get_or, Some, Ok, Err, Result, ◌≢◌, slice_index_or}
-use Rattle.std.specs.List.{flat_map, AllByRecursion as All}
+use Rattle.std.specs.List.{flat_map, AllByRecursion}
 use Rattle.parish.specs.declared.refusals.Refusal.{Refusal}
 use Rattle.parish.specs.declared.items.Household.{Household}
 use Rattle.parish.specs.Model.{Model, Sound, no_model}
@@ -45,7 +45,7 @@ pub record Opens (text : List ℕ) (fs : List (List ℕ)) : Type 0 where
   pub more : List ℕ
   pub whole : text ≡ line_of fs ++ more
   pub some : 0 < length fs
-  pub plain : All Plain fs
+  pub plain : AllByRecursion Plain fs
 
 -- Why the value line at the front of `rest` is bad, at its place, for a parish that holds m. Each way says that the tests
 -- before it passed.

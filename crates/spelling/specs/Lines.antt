@@ -1,10 +1,9 @@
 -- How a sheet is read onto a parish, line by line, for any kind of sheet. What this gives is said in plain words in Laws.
 -- Assumes nothing.
-use Rattle.std.specs.Prelude.{◌≡◌, ℕ, ◌+◌, Bool, true, false, cond, List, [], ◌∷◌, length, Some, None, Ok, Err, Option, Result, ◌==◌}
+use Rattle.std.specs.Prelude.{◌≡◌, ℕ, ◌+◌, Bool, cond, List, [], ◌∷◌, length, Some, None, Ok, Err, Option, Result, ◌==◌}
 use Rattle.std.specs.Option.{option_map, ok_or}
 use Rattle.parish.specs.declared.items.Household.{Household}
 use Rattle.parish.specs.declared.items.Link.{Link}
-use Rattle.parish.specs.declared.refusals.Refusal.{Refusal}
 use Rattle.parish.specs.Edits.{answer_by}
 use Rattle.parish.specs.Model.{Model}
 use Rattle.faults.specs.declared.LineFault.{LineFault}

@@ -1,5 +1,5 @@
 -- What a load of two sheets gives: the parish that they spell, or the first fault. Assumes nothing.
-use Rattle.std.specs.Prelude.{◌≡◌, ℕ, List, length, Ok, Err, Result}
+use Rattle.std.specs.Prelude.{ℕ, List, length, Ok, Err, Result}
 use Rattle.parish.specs.Model.{Model, no_model}
 use Rattle.spelling.specs.declared.counts.Counts.{Counts}
 use Rattle.faults.specs.declared.LoadFault.{LoadFault}

@@ -1,7 +1,7 @@
 -- Bytes cut at a separator, and put together again. Assumes nothing.
-use Rattle.std.specs.Prelude.{◌≡◌, ℕ, ◌<◌, Bool, true, false, cond, List, [], ◌∷◌, ◌++◌, length, Some, None, Option, ◌==◌, ◌≢◌, slice_index_or}
+use Rattle.std.specs.Prelude.{◌≡◌, ℕ, ◌<◌, cond, List, [], ◌∷◌, ◌++◌, length, Some, None, Option, ◌==◌, ◌≢◌, slice_index_or}
 use Rattle.std.specs.Borrow.{Bor}
-use Rattle.std.specs.List.{AllByRecursion as All}
+use Rattle.std.specs.List.{AllByRecursion}
 
 -- one byte more at the front of the first piece
 abbrev pub onto : ℕ → List (List ℕ) → List (List ℕ)
@@ -21,13 +21,13 @@ glued b (p ∷ (q ∷ ps)) = p ++ (b ∷ glued b (q ∷ ps))
 
 -- no byte is b
 abbrev pub Lacks : ℕ → List ℕ → Type 0
-Lacks b s = All (λ x. x ≢ b) s
+Lacks b s = AllByRecursion (λ x. x ≢ b) s
 
 -- what cutting s at b means: put together again the pieces are s, and none of them has a byte b
 pub record Cut (b : ℕ) (s : List ℕ) (ps : List (List ℕ)) : Type 0 where
   pub some : 0 < length ps
   pub whole : glued b ps ≡ s
-  pub apart : All (Lacks b) ps
+  pub apart : AllByRecursion (Lacks b) ps
 
 -- the pieces are such a cut, and the only one
 abbrev pub PiecesAreTheCut : Type 0

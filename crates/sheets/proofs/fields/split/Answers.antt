@@ -28,7 +28,7 @@ returns-then-count-fields-2 c =
       counts =
           subst (λ k. false ≡ eqb (length (pieces 44 c.args.line.now)) k) c.loop-field.auto.fields
           (split_under 44 c.loop-field.count c.loop-field.fields rest (pieces 44 c.args.line.now) c.loop-field.invariant.0 c.loop-field.invariant.1
-          c.if-count-fields-2.true c.in-default.ensures.parted.0);
+          c.if-count-fields-2.true c.in_default.ensures.parted.0);
       fills = search rules;
     }
 
@@ -39,9 +39,9 @@ returns c =
       counts =
           subst (λ k. true ≡ eqb (length (pieces 44 c.args.line.now)) k) c.loop-field.auto.fields
           (split_counts 44 c.loop-field.count c.loop-field.fields rest (pieces 44 c.args.line.now) c.loop-field.invariant.0 c.loop-field.invariant.1
-          c.if-count-fields-2.false c.in-default.ensures.parted.0);
+          c.if-count-fields-2.false c.in_default.ensures.parted.0);
       fills = λ _.
           split_fills 44 c.loop-field.count c.loop-field.fields rest (pieces 44 c.args.line.now) c.loop-field.invariant.0 c.loop-field.invariant.1
-          c.rest.result c.if-count-fields-2.false c.in-default.ensures.parted.0
-          (c.rest.ensures ∙ ap (drop c.part.new.self.place) c.in-default.ensures.bytes ∙ c.in-default.ensures.parted.1);
+          c.rest.result c.if-count-fields-2.false c.in_default.ensures.parted.0
+          (c.rest.ensures ∙ ap (drop c.part.new.self.place) c.in_default.ensures.bytes ∙ c.in_default.ensures.parted.1);
     }

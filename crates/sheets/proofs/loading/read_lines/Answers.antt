@@ -1,4 +1,4 @@
-use Rattle.std.proofs.Common.{◌+◌, length, drop, sym, ap, ◌∙◌, arith, rules}
+use Rattle.std.proofs.Common.{◌+◌, length, drop, sym, ap, ◌∙◌, arith}
 use Rattle.std.proofs.lemmas.Result.{err_from_is_err_and}
 use Rattle.parish.specs.View.{view}
 use Rattle.spelling.specs.Lines.{lines_read}
@@ -6,24 +6,24 @@ use Rattle.spelling.specs.Pieces.{pieces}
 use Rattle.spelling.proofs.Reading.{line_unspelt, line_refused, line_added}
 use Rattle.sheets.proofs.loading.read_lines.Goals as goal
 
-pub returns-in-err-record : goal.returns-in-err-record
-returns-in-err-record g c =
-    let p = err_from_is_err_and c.from-residual.result c.from-residual.ensures.1 in
+pub returns-in_err-record : goal.returns-in_err-record
+returns-in_err-record g c =
+    let p = err_from_is_err_and c.from_residual.result c.from_residual.ensures.1 in
     rw (p.1, p.2)
     (sym c.loop-line.invariant.2
     ∙ line_unspelt g.K.SheetKind.kind c.loop-line.place (view c.loop-line.parish)
     (drop c.loop-line.reader.place c.loop-line.reader.bytes.now) (drop c.part.new.self.place c.loop-line.reader.bytes.now)
-    c.in-Some.line.now c.loop-line.invariant.0 c.in-Some.ensures.parted.0 _ c.in-err-record.ensures)
+    c.in-Some.line.now c.loop-line.invariant.0 c.in-Some.ensures.parted.0 _ c.in_err-record.ensures)
 
-pub returns-in-err-add : goal.returns-in-err-add
-returns-in-err-add g c =
-    let p = err_from_is_err_and c.from-residual-in-err-add.result c.from-residual-in-err-add.ensures.1 in
+pub returns-in_err-add : goal.returns-in_err-add
+returns-in_err-add g c =
+    let p = err_from_is_err_and c.from_residual-in_err-add.result c.from_residual-in_err-add.ensures.1 in
     rw (p.1, p.2)
     (sym c.loop-line.invariant.2
     ∙ line_refused g.K.SheetKind.kind c.loop-line.place (view c.loop-line.parish)
     (drop c.loop-line.reader.place c.loop-line.reader.bytes.now) (drop c.part.new.self.place c.loop-line.reader.bytes.now)
     c.in-Some.line.now c.loop-line.invariant.0 c.in-Some.ensures.parted.0
-    c.in-ok-record.record _ c.in-ok-record.ensures c.in-err-add.ensures.0)
+    c.in_ok-record.record _ c.in_ok-record.ensures c.in_err-add.ensures.0)
 
 pub loop-line-preserved : goal.loop-line-preserved
 loop-line-preserved g c =
@@ -34,6 +34,6 @@ loop-line-preserved g c =
           ∙ sym (line_added g.K.SheetKind.kind c.loop-line.place (view c.loop-line.parish)
           (drop c.loop-line.reader.place c.loop-line.reader.bytes.now) (drop c.part.new.self.place c.loop-line.reader.bytes.now)
           c.in-Some.line.now c.loop-line.invariant.0 c.in-Some.ensures.parted.0
-          c.in-ok-record.record (view c.add.new.parish) c.in-ok-record.ensures c.in-ok-add.ensures)
+          c.in_ok-record.record (view c.add.new.parish) c.in_ok-record.ensures c.in_ok-add.ensures)
           ∙ c.loop-line.invariant.2,
     )

@@ -1,4 +1,4 @@
-use Rattle.std.proofs.Common.{◌≡◌, ◌+◌, ◌^◌, ◌<◌, ◌≤◌, length, drop}
+use Rattle.std.proofs.Common.{◌≡◌, ◌+◌, ◌^◌, ◌<◌, length, drop}
 use Rattle.parish.specs.View.{view}
 use Rattle.spelling.specs.Lines.{lines_read}
 use Rattle.spelling.specs.Pieces.{pieces}

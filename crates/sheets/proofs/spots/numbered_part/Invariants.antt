@@ -4,5 +4,5 @@ use Rattle.sheets.proofs.spots.numbered_part.Given as goal
 
 abbrev pub invariant-loop-i : goal.invariant-loop-i
 invariant-loop-i l =
-    (l.-i ≤ l.number)
-    × (numbered (l.number + 1 - l.-i) (pieces l.end (drop l.reader.place l.reader.bytes.now)) ≡ numbered l.number (pieces l.end l.bytes))
+    (l._i ≤ l.number)
+    × (numbered (l.number + 1 - l._i) (pieces l.end (drop l.reader.place l.reader.bytes.now)) ≡ numbered l.number (pieces l.end l.bytes))

@@ -14,7 +14,7 @@ returns-then-n-rest c =
 pub invariant_of-self : goal.invariant_of-self
 invariant_of-self c =
     let at = part_found _ _ c.args.self.now.place c.args.self.now.bytes.now _ c.rest-rest.ensures (omega arith) c.position-n.ensures.before (c.position-n.ensures.found (omega arith)) in
-    (at.2, tt)
+    record { within = at.2 }
 
 pub returns : goal.returns
 returns c =
