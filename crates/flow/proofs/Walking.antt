@@ -1,6 +1,6 @@
 -- A path taken arc by arc, from its last. Assumes nothing.
 use Rattle.std.proofs.Common.{◌≡◌, ℕ, suc, ◌-◌, ◌*◌, ◌<◌, ◌≤◌, min, cond, List, [], ◌∷◌, length, get_or, sym, refl, ap, ◌∙◌, subst, arith}
-use Rattle.std.specs.List.{AllByRecursion as All}
+use Rattle.std.specs.List.{AllByRecursion}
 use Rattle.parish.specs.Limits.{strongest_held}
 use Rattle.parish.specs.declared.items.Link.{Link}
 use Rattle.flows.specs.declared.items.Arc.{Arc}
@@ -30,7 +30,7 @@ path_none ls marks n v e = ap (λ i. path_back ls marks i v) e
 pub record Measuring (ls : List Link) (left room : List ℕ) (marks : List Mark) (n sofar v whole : ℕ) : Type 0 where
   pub goes_on : least (room_of left room) sofar (path_back ls marks n v) ≡ whole
   pub reached : v < length marks
-  pub there : All (λ a. a.link < length ls) (path_back ls marks n v)
+  pub there : AllByRecursion (λ a. a.link < length ls) (path_back ls marks n v)
 
 -- and before one is sent along: what is left of the path can be, and comes to what the whole does
 pub record Walking (ls : List Link) (room : List ℕ) (marks : List Mark) (d n v : ℕ) (whole : List ℕ) : Type 0 where
@@ -71,9 +71,9 @@ open_sendable ls left room n d p net ok h =
 -- ---- one arc more
 module _ (ls : List Link) (marks : List Mark) (n more v : ℕ) (e : n ≡ suc more) where
   -- the link by which the household at hand was reached
-  pub link_there : All (λ a. a.link < length ls) (path_back ls marks n v) → (get_or marks v no_mark).link < length ls
+  pub link_there : AllByRecursion (λ a. a.link < length ls) (path_back ls marks n v) → (get_or marks v no_mark).link < length ls
   link_there h =
-      (subst (λ p. All (λ a. a.link < length ls) p) (path_more ls marks n more v (arc_to ls marks v) (tail ls (arc_to ls marks v)) e refl refl) h).0
+      (subst (λ p. AllByRecursion (λ a. a.link < length ls) p) (path_more ls marks n more v (arc_to ls marks v) (tail ls (arc_to ls marks v)) e refl refl) h).0
 
   module _ (a : Arc) (u : ℕ) (is : a ≡ arc_to ls marks v) (next : u ≡ tail ls a) (ends : Within (length marks) ls) where
     more_is : path_back ls marks n v ≡ a ∷ path_back ls marks more u
@@ -85,7 +85,7 @@ module _ (ls : List Link) (marks : List Mark) (n more v : ℕ) (e : n ≡ suc mo
     pub measuring_more : (left room : List ℕ) (sofar now' whole : ℕ) → Measuring ls left room marks n sofar v whole → now' ≡ min sofar (room_of left room a)
         → Measuring ls left room marks more now' u whole
     measuring_more left room sofar now' whole h q =
-        let there : All (λ b. b.link < length ls) (a ∷ path_back ls marks more u) = subst (λ p. All (λ b. b.link < length ls) p) more_is h.there in
+        let there : AllByRecursion (λ b. b.link < length ls) (a ∷ path_back ls marks more u) = subst (λ p. AllByRecursion (λ b. b.link < length ls) p) more_is h.there in
         record {
           goes_on = ap (λ x. least (room_of left room) x (path_back ls marks more u)) q ∙ sym (ap (least (room_of left room) sofar) more_is) ∙ h.goes_on;
           reached = inside there.0;

@@ -1,6 +1,6 @@
 -- When an amount can be sent along a path, by the room alone. Assumes nothing.
 use Rattle.std.specs.Prelude.{◌≡◌, ℕ, ◌+◌, ◌*◌, ◌<◌, ◌≤◌, true, false, List, length, slice_index}
-use Rattle.std.specs.List.{AllByRecursion as All}
+use Rattle.std.specs.List.{AllByRecursion}
 use Rattle.parish.specs.Limits.{strongest_held}
 use Rattle.parish.specs.declared.items.Link.{Link}
 use Rattle.flows.specs.declared.items.Arc.{Arc}
@@ -14,5 +14,5 @@ Fits d room a =
 -- along each arc of a path, no link of which comes twice
 pub record Sendable (ls : List Link) (room : List ℕ) (d : ℕ) (p : List Arc) : Type 0 where
   pub apart : Apart p
-  pub there : All (λ a. a.link < length ls) p
-  pub fits : All (Fits d room) p
+  pub there : AllByRecursion (λ a. a.link < length ls) p
+  pub fits : AllByRecursion (Fits d room) p

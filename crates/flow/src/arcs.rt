@@ -1,7 +1,7 @@
 // Arcs: a link gone one way or the other, with the room that way.
 ghost use Rattle.std.specs.Prelude.{◌≡◌, ◌+◌, ◌*◌, ◌<◌, ◌≤◌, true, false, length, slice_index};
 ghost use Rattle.parish.specs.Limits.{strongest_held};
-ghost use Rattle.flows.specs.Paths.{tail as Tail-of, head as head_of, room_of as room-along, send};
+ghost use Rattle.flows.specs.Paths.{tail as tail_of, head as head_of, room_of as room_along, send};
 
 use flows::Arc;
 use parish::Link;
@@ -9,7 +9,7 @@ use parish::Link;
 // The household that an arc comes from.
 pub(crate) fn tail(links: &[Link], arc: Arc) -> usize
     requires { arc.link < length links.now }
-    ensures { result ≡ Tail-of links.now arc }
+    ensures { result ≡ tail_of links.now arc }
 {
     let link = &links[arc.link];
     if arc.onward { link.from } else { link.to }
@@ -30,7 +30,7 @@ pub(crate) fn room_of(left: &[u32], room: &[u32], arc: Arc) -> u32
     requires room_there { arc.link < length room.now }
     requires small { slice_index left.now arc.link ≤ strongest_held }
     requires within { slice_index room.now arc.link ≤ 2 * slice_index left.now arc.link }
-    ensures { result ≡ room-along left.now room.now arc }
+    ensures { result ≡ room_along left.now room.now arc }
 {
     if arc.onward {
         room[arc.link]

@@ -1,6 +1,6 @@
 // Paths back from an arc to a household of A, through the arcs by which a search reached its households.
 ghost use Rattle.std.specs.Prelude.{◌≡◌, ◌*◌, ◌<◌, ◌≤◌, min, ◌∷◌, length, slice_index, slice_index_or};
-ghost use Rattle.std.specs.List.{AllByRecursion as All};
+ghost use Rattle.std.specs.List.{AllByRecursion};
 ghost use Rattle.parish.specs.Limits.{strongest_held};
 ghost use Rattle.flows.specs.Paths.{room_of as room-along, least_room, send_all, Open};
 ghost use Rattle.flows.specs.Rounds.{Roomed};
@@ -47,7 +47,7 @@ fn least_room(
 ) -> u32
     requires network { Network links.now left.now (length marks.now) }
     requires roomed { Roomed links.now left.now room.now }
-    requires there { All (λ a. a.link < length links.now) (last ∷ path_before links.now marks.now depth last) }
+    requires there { AllByRecursion (λ a. a.link < length links.now) (last ∷ path_before links.now marks.now depth last) }
     ensures { result ≡ least_room left.now room.now last (path_before links.now marks.now depth last) }
 {
     let mut least = room_of(left, room, last);

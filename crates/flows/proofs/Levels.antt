@@ -1,7 +1,7 @@
 -- The search level by level sends along ways, and where it sends nothing the reached households are a shut side.
 -- Assumes nothing.
 use Rattle.std.proofs.Common.{◌≡◌, ℕ, zero, suc, ◌+◌, ◌-◌, ◌<◌, ◌≤◌, Bool, true, false, cond, ◌&&◌, eqb, ltb, List, ◌∷◌, length, get_or, set, Some, None, sym, refl, ap, ◌∙◌, subst, ap₂, inl, inr, arith, length-set, get_or-set_other, get_or-set_same}
-use Rattle.std.specs.List.{AllByRecursion as All}
+use Rattle.std.specs.List.{AllByRecursion}
 use Rattle.std.proofs.ByRecursion.{All-weaker}
 use Rattle.std.proofs.lemmas.Bool.{cases_eq, eq-eqb, ne_eqb, cond_both}
 use Rattle.std.proofs.lemmas.Bool.Decides.{nat_tests}
@@ -110,12 +110,12 @@ pub record Back (ls : List Link) (lots : List ℕ) (marks : List Mark) (v d : �
   pub from_A : get_or lots start 0 ≡ 1
   pub leads : Leads ls p start v
   pub apart : Apart p
-  pub there : All (λ a. a.link < length ls) p
-  pub low : All (LowArc ls marks (suc d)) p
+  pub there : AllByRecursion (λ a. a.link < length ls) p
+  pub low : AllByRecursion (LowArc ls marks (suc d)) p
 
 -- an arc one of whose ends is not so low has another link than those of a path
 apart_from : (ls : List Link) (marks : List Mark) (n : ℕ) (a : Arc) (p : List Arc) → (Low marks n (head ls a) → ⊥)
-    → All (LowArc ls marks n) p → All (λ b. a.link ≡ b.link → ⊥) p
+    → AllByRecursion (LowArc ls marks n) p → AllByRecursion (λ b. a.link ≡ b.link → ⊥) p
 apart_from ls marks n a p high low =
     All-weaker (LowArc ls marks n) (λ b. a.link ≡ b.link → ⊥)
     (λ b h e.
@@ -147,7 +147,7 @@ module _ (ls : List Link) (lots : List ℕ) (marks : List Mark) (t : Tree ls lot
       }
 
   pub back_roomy : (left room : List ℕ) → Roomy ls left room marks → (d v : ℕ) → level_of marks v ≡ suc d
-      → All (λ a. 1 ≤ room_of left room a) (path_back ls marks d v)
+      → AllByRecursion (λ a. 1 ≤ room_of left room a) (path_back ls marks d v)
   back_roomy left room r zero v e = tt
   back_roomy left room r (suc d) v e = (r v d e, back_roomy left room r d (tail ls (arc_to ls marks v)) (t.linked v d e).above)
 

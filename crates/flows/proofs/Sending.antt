@@ -1,7 +1,7 @@
 -- Sending along a path: for every side S, the room left across it falls by what is sent, where the path leads out of S.
 -- A side is a test on households. Assumes nothing.
 use Rattle.std.proofs.Common.{◌≡◌, ℕ, ◌+◌, ◌-◌, ◌*◌, ◌<◌, ◌≤◌, min, Bool, true, false, cond, ◌≢◌, List, [], ◌∷◌, length, get_or, set, sym, ap, ◌∙◌, subst, inl, inr, arith, length-set, get_or-set_other, get_or-set_same}
-use Rattle.std.specs.List.{AllByRecursion as All}
+use Rattle.std.specs.List.{AllByRecursion}
 use Rattle.std.proofs.lemmas.Bool.{cases_eq}
 use Rattle.parish.specs.declared.items.Link.{Link}
 use Rattle.bisection.specs.Answers.{least}
@@ -26,7 +26,7 @@ side_cut ls S amount = across ls S amount amount
 abbrev pub residual : List Link → List ℕ → (ℕ → Bool) → List ℕ → ℕ
 residual ls left S room = across ls S (λ k. get_or room k 0) (λ k. 2 * get_or left k 0 - get_or room k 0)
 
-pub all_both : (P Q R : Arc → Type 0) (p : List Arc) → ((a : Arc) → P a → Q a → R a) → All P p → All Q p → All R p
+pub all_both : (P Q R : Arc → Type 0) (p : List Arc) → ((a : Arc) → P a → Q a → R a) → AllByRecursion P p → AllByRecursion Q p → AllByRecursion R p
 all_both P Q R [] f h g = tt
 all_both P Q R (a ∷ p) f h g = (f a h.0 g.0, all_both P Q R p f h.1 g.1)
 
@@ -126,7 +126,7 @@ least_start : (left room : List ℕ) (p : List Arc) (u : ℕ) → least (room_of
 least_start left room [] u = omega arith
 least_start left room (a ∷ p) u = omega (arith, least_start left room p (min u (room_of left room a)))
 
-least_each : (left room : List ℕ) (p : List Arc) (u : ℕ) → All (λ a. least (room_of left room) u p ≤ room_of left room a) p
+least_each : (left room : List ℕ) (p : List Arc) (u : ℕ) → AllByRecursion (λ a. least (room_of left room) u p ≤ room_of left room a) p
 least_each left room [] u = tt
 least_each left room (a ∷ p) u =
     let v : ℕ = min u (room_of left room a) in (
@@ -134,10 +134,10 @@ least_each left room (a ∷ p) u =
       least_each left room p v,
     )
 
-pub least_sendable : (left room : List ℕ) (a : Arc) (p : List Arc) → All (λ b. least_room left room a p ≤ room_of left room b) (a ∷ p)
+pub least_sendable : (left room : List ℕ) (a : Arc) (p : List Arc) → AllByRecursion (λ b. least_room left room a p ≤ room_of left room b) (a ∷ p)
 least_sendable left room a p = (least_start left room p (room_of left room a), least_each left room p (room_of left room a))
 
 -- and it is something, where each arc has some
-pub least_some : (left room : List ℕ) (p : List Arc) (u : ℕ) → 1 ≤ u → All (λ a. 1 ≤ room_of left room a) p → 1 ≤ least (room_of left room) u p
+pub least_some : (left room : List ℕ) (p : List Arc) (u : ℕ) → 1 ≤ u → AllByRecursion (λ a. 1 ≤ room_of left room a) p → 1 ≤ least (room_of left room) u p
 least_some left room [] u some h = some
 least_some left room (a ∷ p) u some h = least_some left room p (min u (room_of left room a)) (omega (arith, h.0)) h.1

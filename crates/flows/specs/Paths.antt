@@ -1,7 +1,7 @@
 -- Sending along paths. Of link k there is `get_or left k 0` left. Its room from the first end to the second, `get_or room k 0`,
 -- is that much at first; its room back is twice what is left, less that. Assumes nothing.
 use Rattle.std.specs.Prelude.{◌≡◌, ℕ, ◌+◌, ◌-◌, ◌*◌, ◌<◌, ◌≤◌, cond, List, [], ◌∷◌, length, fold, ◌≢◌, slice_index, slice_set}
-use Rattle.std.specs.List.{AllByRecursion as All}
+use Rattle.std.specs.List.{AllByRecursion}
 use Rattle.parish.specs.declared.items.Link.{Link}
 use Rattle.bisection.specs.Answers.{least}
 use Rattle.flows.specs.declared.items.Arc.{Arc}
@@ -36,7 +36,7 @@ send_all d room path = fold (send d) room path
 -- no two arcs of a path have one link
 abbrev pub Apart : List Arc → Type 0
 Apart [] = Unit {0}
-Apart (a ∷ p) = All (λ b. a.link ≢ b.link) p × Apart p
+Apart (a ∷ p) = AllByRecursion (λ b. a.link ≢ b.link) p × Apart p
 
 -- the arcs of a path, the last first, lead from one household to another
 abbrev pub Leads : List Link → List Arc → ℕ → ℕ → Type 0
@@ -46,8 +46,8 @@ Leads ls (a ∷ p) start goal = (head ls a ≡ goal) × Leads ls p start (tail l
 -- an amount can be sent along a path: no link comes twice, each is there and has the room
 pub record Open (ls : List Link) (left room : List ℕ) (d : ℕ) (p : List Arc) : Type 0 where
   pub apart : Apart p
-  pub there : All (λ a. a.link < length ls) p
-  pub roomy : All (λ a. d ≤ room_of left room a) p
+  pub there : AllByRecursion (λ a. a.link < length ls) p
+  pub roomy : AllByRecursion (λ a. d ≤ room_of left room a) p
 
 -- the flow that some room shows
 abbrev pub flow_of : List ℕ → List ℕ → Flow

@@ -1,6 +1,6 @@
 -- The fewest trees that reach a goal, in words. Assumes nothing.
 use Rattle.std.proofs.Common.{◌≡◌, ℕ, zero, suc, ◌<◌, ◌≤◌, min, Bool, true, false, cond, eqb, leb, ◌⊎◌, List, [], ◌∷◌, map, length, sum_by, filter, sym, refl, ap, ◌∙◌, subst, ap₂, inl, inr, arith}
-use Rattle.std.specs.List.{AllByRecursion as All}
+use Rattle.std.specs.List.{AllByRecursion}
 use Rattle.std.proofs.ByRecursion.{All-append, All-map}
 use Rattle.std.proofs.lemmas.List.Sums.{sum_by-cons}
 use Rattle.std.proofs.lemmas.Bool.{cases_eq, cases_lt, cases_Bool, le-leb, leb-true, eq-eqb, ne_eqb, cond-true, cond-false, false≢true}
@@ -54,10 +54,10 @@ those_weigh w p (suc n) =
 
 -- what holds of every choice holds of every sublist
 each_sublist : (tree : ℕ → Bool) (P : List ℕ → Type 0) (n : ℕ) → ((p : ℕ → Bool) → Among n p tree → P (those_below p n))
-    → All P (sublists (those_below tree n))
+    → AllByRecursion P (sublists (those_below tree n))
 each_sublist tree P zero h = (h (λ _. false) (λ r l e. absurd (omega arith)), tt)
 each_sublist tree P (suc n) h =
-    let skip : All P (sublists (those_below tree n)) = each_sublist tree P n (λ p sub. top p false sub (λ e. absurd (false≢true e))) in
+    let skip : AllByRecursion P (sublists (those_below tree n)) = each_sublist tree P n (λ p sub. top p false sub (λ e. absurd (false≢true e))) in
     elim (cases_Bool (tree n)) [
       | inr fail ↦ rw fail skip
       | inl pass ↦
@@ -76,7 +76,7 @@ each_sublist tree P (suc n) h =
         ]))
 
 -- and the other way round
-sublist_has : (tree : ℕ → Bool) (P : List ℕ → Type 0) (n : ℕ) → All P (sublists (those_below tree n))
+sublist_has : (tree : ℕ → Bool) (P : List ℕ → Type 0) (n : ℕ) → AllByRecursion P (sublists (those_below tree n))
     → (p : ℕ → Bool) → Among n p tree → P (those_below p n)
 sublist_has tree P zero all p sub = all.0
 sublist_has tree P (suc n) all p sub =
@@ -94,7 +94,7 @@ sublist_has tree P (suc n) all p sub =
     ]
 
 -- the least is the number that it starts from, or that of one of the list
-least_met : {X : Type 0} (f : X → ℕ) (u : ℕ) (P : X → Type 0) (xs : List X) → All P xs
+least_met : {X : Type 0} (f : X → ℕ) (u : ℕ) (P : X → Type 0) (xs : List X) → AllByRecursion P xs
     → (least f u xs ≡ u) ⊎ ((x : X) × P x × (least f u xs ≡ f x))
 least_met f u P [] h = inl refl
 least_met f u P (x ∷ xs) h =

@@ -1,6 +1,6 @@
 -- The least cost in a list and the first that has it, as the list grows. Assumes nothing.
 use Rattle.std.proofs.Common.{◌≡◌, ℕ, ◌<◌, ◌≤◌, min, Bool, true, false, cond, List, [], ◌∷◌, ◌++◌, Some, None, Option, sym, refl, ap, ◌∙◌, inl, inr, arith}
-use Rattle.std.specs.List.{ContainsAt as Has, AllByRecursion as All}
+use Rattle.std.specs.List.{ContainsAt as Has, AllByRecursion}
 use Rattle.std.proofs.ByRecursion.{has_append_right, All-weaker}
 use Rattle.std.proofs.lemmas.Bool.{lt-ltb, le-ltb, cases_lt, both_ways}
 use Rattle.bisection.specs.Answers.{least, first_least, or_else}
@@ -13,21 +13,21 @@ module _ {X : Type 0} (f : X → ℕ) where
   min_above u v h = omega arith
 
   -- no cheaper one
-  best_none : (u : ℕ) (ys : List X) → All (λ y. u ≤ f y) ys → first_least f u ys ≡ None
+  best_none : (u : ℕ) (ys : List X) → AllByRecursion (λ y. u ≤ f y) ys → first_least f u ys ≡ None
   best_none u [] h = refl
   best_none u (y ∷ ys) h =
       ap (λ b. cond b (or_else y (first_least f (f y) ys)) (first_least f u ys)) (le-ltb (f y) u h.0) ∙ best_none u ys h.1
 
   -- what is added and costs no less than the least changes nothing
-  pub best_stays : (u : ℕ) (xs ys : List X) → All (λ y. least f u xs ≤ f y) ys → first_least f u (xs ++ ys) ≡ first_least f u xs
+  pub best_stays : (u : ℕ) (xs ys : List X) → AllByRecursion (λ y. least f u xs ≤ f y) ys → first_least f u (xs ++ ys) ≡ first_least f u xs
   best_stays u [] ys h = best_none u ys h
   best_stays u (x ∷ xs) ys h =
       elim (cases_lt (f x) u) [
         | inl lt ↦
-            let h' : All (λ y. least f (f x) xs ≤ f y) ys = rw (min_below u (f x) lt) at h in
+            let h' : AllByRecursion (λ y. least f (f x) xs ≤ f y) ys = rw (min_below u (f x) lt) at h in
             rw (lt-ltb (f x) u lt) (ap (or_else x) (best_stays (f x) xs ys h'))
         | inr le ↦
-            let h' : All (λ y. least f u xs ≤ f y) ys = rw (min_above u (f x) le) at h in
+            let h' : AllByRecursion (λ y. least f u xs ≤ f y) ys = rw (min_above u (f x) le) at h in
             rw (le-ltb (f x) u le) (best_stays u xs ys h')
       ]
 
@@ -47,18 +47,18 @@ module _ {X : Type 0} (f : X → ℕ) where
 -- what the first of least cost is, in a list that an order R sorts
 abbrev pub Sorted : {X : Type 0} → (X → X → Bool) → List X → Type 0
 Sorted R [] = Unit {0}
-Sorted R (x ∷ xs) = All (λ z. R z x ≡ false) xs × Sorted R xs
+Sorted R (x ∷ xs) = AllByRecursion (λ z. R z x ≡ false) xs × Sorted R xs
 
 pub record Best {X : Type 0} (f : X → ℕ) (R : X → X → Bool) (u : ℕ) (xs : List X) (y : X) : Type 0 where
   pub among : Has xs y
   pub costs : f y ≡ least f u xs
   pub below : f y < u
-  pub most : All (λ x. f y ≤ f x) xs
-  pub first : All (λ x. R x y ≡ true → f y < f x) xs
+  pub most : AllByRecursion (λ x. f y ≤ f x) xs
+  pub first : AllByRecursion (λ x. R x y ≡ true → f y < f x) xs
 
 pub record NoBest {X : Type 0} (f : X → ℕ) (u : ℕ) (xs : List X) : Type 0 where
   pub costs : least f u xs ≡ u
-  pub most : All (λ x. u ≤ f x) xs
+  pub most : AllByRecursion (λ x. u ≤ f x) xs
 
 abbrev pub Outcome : {X : Type 0} (f : X → ℕ) (R : X → X → Bool) (u : ℕ) (xs : List X) → Option X → Type 0
 Outcome f R u xs None = NoBest f u xs
@@ -72,7 +72,7 @@ module _ {X : Type 0} (f : X → ℕ) (R : X → X → Bool) (self : (x : X) →
   has_later x xs y h = has_append_right (x ∷ []) xs y h
 
   -- x costs less than u: it is the best unless a later one costs less
-  taken : (u : ℕ) (x : X) (xs : List X) → f x < u → All (λ z. R z x ≡ false) xs → (o : Option X)
+  taken : (u : ℕ) (x : X) (xs : List X) → f x < u → AllByRecursion (λ z. R z x ≡ false) xs → (o : Option X)
       → Outcome f R (f x) xs o → Outcome f R u (x ∷ xs) (or_else x o)
   taken u x xs lt s None h = record {
     among = has_here x xs;

@@ -1,7 +1,7 @@
 -- The lots of a node, and of the nodes below it. Assumes nothing.
 use Rattle.std.proofs.Common.{◌≡◌, ℕ, zero, suc, ◌<◌, ◌≤◌, cond, eqb, List, [], ◌∷◌, ◌++◌, map, length, get_or, Some, None, Option, refl, ap, ◌∙◌, le_of_suc-le-suc, not-suc-le-zero, arith}
 use lib.ListN.{length-map}
-use Rattle.std.specs.List.{AllByRecursion as All}
+use Rattle.std.specs.List.{AllByRecursion}
 use Rattle.std.proofs.ByRecursion.{All-append, All-map}
 use Rattle.std.proofs.lemmas.Bool.{cond-false, ne_eqb}
 use Rattle.parish.specs.Model.{Model}
@@ -15,14 +15,14 @@ use Rattle.search.specs.Nodes.{free, dealt, lots_of}
 use Rattle.search.proofs.Order.{leaves, leaves_below}
 
 -- what holds of every leaf that goes on from a node holds of the leaves below it
-all_leaves : (P : List Lot → Type 0) (k : ℕ) → ((l : List Lot) → length l ≡ k → P l) → All P (leaves k)
+all_leaves : (P : List Lot → Type 0) (k : ℕ) → ((l : List Lot) → length l ≡ k → P l) → AllByRecursion P (leaves k)
 all_leaves P zero h = (h [] refl, tt)
 all_leaves P (suc k) h =
     All-append P (map (λ l. A ∷ l) (leaves k)) (map (λ l. B ∷ l) (leaves k))
     (All-map P (λ l. A ∷ l) (leaves k) (all_leaves (λ l. P (A ∷ l)) k (λ l e. h (A ∷ l) (ap suc e))))
     (All-map P (λ l. B ∷ l) (leaves k) (all_leaves (λ l. P (B ∷ l)) k (λ l e. h (B ∷ l) (ap suc e))))
 
-pub all_below : (P : List Lot → Type 0) (n : List Lot) (k : ℕ) → ((r : List Lot) → length (n ++ r) ≡ k → P (n ++ r)) → All P (leaves_below k n)
+pub all_below : (P : List Lot → Type 0) (n : List Lot) (k : ℕ) → ((r : List Lot) → length (n ++ r) ≡ k → P (n ++ r)) → AllByRecursion P (leaves_below k n)
 all_below P [] k h = all_leaves P k h
 all_below P (x ∷ n) zero h = tt
 all_below P (x ∷ n) (suc k) h =

@@ -1,6 +1,6 @@
 -- Laws of lists that a test filters. Assumes nothing.
 use Rattle.std.proofs.Common.{◌≡◌, Bool, true, false, cond, not, ◌&&◌, List, [], ◌∷◌, map, filter, sym, refl, ap, ◌∙◌, ap₂}
-use Rattle.std.specs.List.{AllByRecursion as All}
+use Rattle.std.specs.List.{AllByRecursion}
 use Rattle.search.specs.Nodes.{none}
 
 pub kept_by_map : {X Y : Type 0} (test : Y → Bool) (f : X → Y) (xs : List X) → filter test (map f xs) ≡ map f (filter (λ x. test (f x)) xs)
@@ -39,7 +39,7 @@ none_map p f [] = refl
 none_map p f (x ∷ xs) = ap (λ b. not (p (f x)) && b) (none_map p f xs)
 
 -- two tests that agree on a list keep the same of it
-pub kept_by_same_in : {X : Type 0} (p q : X → Bool) (xs : List X) → All (λ x. p x ≡ q x) xs → filter p xs ≡ filter q xs
+pub kept_by_same_in : {X : Type 0} (p q : X → Bool) (xs : List X) → AllByRecursion (λ x. p x ≡ q x) xs → filter p xs ≡ filter q xs
 kept_by_same_in p q [] h = refl
 kept_by_same_in p q (x ∷ xs) h = ap₂ (λ b r. cond b (x ∷ r) r) h.0 (kept_by_same_in p q xs h.1)
 

@@ -1,6 +1,6 @@
 -- The leader before a node: what changes it, and what does not. Assumes nothing.
 use Rattle.std.proofs.Common.{◌≡◌, ℕ, ◌<◌, ◌≤◌, Bool, true, not, ◌&&◌, ltb, leb, ◌⊎◌, List, [], ◌∷◌, ◌++◌, map, length, Some, None, filter, Option, sym, ap, ◌∙◌, subst, inl, inr, arith}
-use Rattle.std.specs.List.{AllByRecursion as All}
+use Rattle.std.specs.List.{AllByRecursion}
 use Rattle.std.proofs.ByRecursion.{All-map}
 use Rattle.std.proofs.lemmas.Bool.{or_cases, and_parts, not-true, leb-true, both_ways, cond-true}
 use Rattle.parish.specs.Model.{Model, Sound}
@@ -77,7 +77,7 @@ no_leader_first m limit ceiling = ap (first_least (cost m) ceiling) (before_is m
 module _ (number : Number) (m : Model) (limit ceiling : ℕ) (sound : Sound m) (law : Lower number) where
   -- below a closed node nothing is cheaper than the incumbent
   none_below : (n : List Lot) → closed number m limit ceiling n ≡ true
-      → All (λ d. incumbent m limit ceiling n ≤ cost m d) (lawful_of m limit (leaves_below (free (pins m)) n))
+      → AllByRecursion (λ d. incumbent m limit ceiling n ≤ cost m d) (lawful_of m limit (leaves_below (free (pins m)) n))
   none_below n e =
       let P : List Lot → Type 0 = λ l. incumbent m limit ceiling n ≤ cost m (lots_of m l) in
       let W : List Lot → Bool = λ l. balanced m limit (lots_of m l) in

@@ -1,6 +1,6 @@
 -- The lawful bisections: which are in their list, and its order. Assumes nothing.
 use Rattle.std.proofs.Common.{◌≡◌, ℕ, zero, suc, Bool, true, false, cond, ◌&&◌, eqb, List, [], ◌∷◌, ◌++◌, map, length, filter, refl, ap, ◌∙◌}
-use Rattle.std.specs.List.{AllByRecursion as All}
+use Rattle.std.specs.List.{AllByRecursion}
 use Rattle.std.proofs.ByRecursion.{All-append, All-map, All-weaker, all_kept_by, kept_by_passes}
 use Rattle.std.proofs.lemmas.Bool.{eq-eqb, or_right}
 use Rattle.parish.specs.Model.{Model}
@@ -21,13 +21,13 @@ lawful_is_kept m limit =
     (each_bisection (λ d. lawful m limit d ≡ Q d) (length m.households)
     (λ d e r. ap (λ b. b && Q d) ((bisects_decided m d).1 (record { long = e; set_each = r }))))
 
-pub all_lawful : (m : Model) (limit : ℕ) → All (Lawful m limit) (lawful_bisections m limit)
+pub all_lawful : (m : Model) (limit : ℕ) → AllByRecursion (Lawful m limit) (lawful_bisections m limit)
 all_lawful m limit =
     All-weaker (λ d. lawful m limit d ≡ true) (Lawful m limit) (λ d e. (lawful_decided m limit d).0 e) (lawful_bisections m limit)
     (kept_by_passes (lawful m limit) (bisections (length m.households)))
 
 -- what holds of all of the list holds of each that is lawful in words
-pub lawful_has : (m : Model) (limit : ℕ) (P : List ℕ → Type 0) → All P (lawful_bisections m limit) → (d : List ℕ) → Lawful m limit d → P d
+pub lawful_has : (m : Model) (limit : ℕ) (P : List ℕ → Type 0) → AllByRecursion P (lawful_bisections m limit) → (d : List ℕ) → Lawful m limit d → P d
 lawful_has m limit P h d w =
     bisection_has (λ d. lawful m limit d ≡ true → P d) (length m.households)
     (all_of_kept (lawful m limit) P (bisections (length m.households)) h) d w.whole.long w.whole.set_each
@@ -38,7 +38,7 @@ pub before_self : (d : List ℕ) → before d d ≡ false
 before_self [] = refl
 before_self (x ∷ d) = ap (λ b. cond b (before d d) (eqb x 1)) (or_right (eqb x 0) (eqb x x) (eq-eqb x x refl)) ∙ before_self d
 
-sorted_append : {X : Type 0} (R : X → X → Bool) (xs ys : List X) → Sorted R xs → Sorted R ys → All (λ x. All (λ y. R y x ≡ false) ys) xs → Sorted R (xs ++ ys)
+sorted_append : {X : Type 0} (R : X → X → Bool) (xs ys : List X) → Sorted R xs → Sorted R ys → AllByRecursion (λ x. AllByRecursion (λ y. R y x ≡ false) ys) xs → Sorted R (xs ++ ys)
 sorted_append R [] ys s t h = t
 sorted_append R (x ∷ xs) ys s t h = (All-append (λ z. R z x ≡ false) xs ys s.0 h.0, sorted_append R xs ys s.1 t h.1)
 
@@ -53,11 +53,11 @@ pub sorted_kept : {X : Type 0} (R : X → X → Bool) (p : X → Bool) (xs : Lis
 sorted_kept R p [] s = tt
 sorted_kept R p (x ∷ xs) s = by (p x) (all_kept_by p (λ z. R z x ≡ false) xs s.0) (sorted_kept R p xs s.1)
   where
-    by : (b : Bool) → All (λ z. R z x ≡ false) (filter p xs) → Sorted R (filter p xs) → Sorted R (cond b (x ∷ filter p xs) (filter p xs))
+    by : (b : Bool) → AllByRecursion (λ z. R z x ≡ false) (filter p xs) → Sorted R (filter p xs) → Sorted R (cond b (x ∷ filter p xs) (filter p xs))
     by true h ih = (h, ih)
     by false h ih = ih
 
-every : {X : Type 0} (P : X → Type 0) → ((x : X) → P x) → (xs : List X) → All P xs
+every : {X : Type 0} (P : X → Type 0) → ((x : X) → P x) → (xs : List X) → AllByRecursion P xs
 every P h [] = tt
 every P h (x ∷ xs) = (h x, every P h xs)
 
@@ -67,7 +67,7 @@ sorted_bisections (suc n) =
     sorted_append before (map (λ d. 1 ∷ d) (bisections n)) (map (λ d. 2 ∷ d) (bisections n))
     (sorted_map before before (λ d. 1 ∷ d) (λ x y. refl) (bisections n) (sorted_bisections n))
     (sorted_map before before (λ d. 2 ∷ d) (λ x y. refl) (bisections n) (sorted_bisections n))
-    (All-map (λ x. All (λ y. before y x ≡ false) (map (λ d. 2 ∷ d) (bisections n))) (λ d. 1 ∷ d) (bisections n)
+    (All-map (λ x. AllByRecursion (λ y. before y x ≡ false) (map (λ d. 2 ∷ d) (bisections n))) (λ d. 1 ∷ d) (bisections n)
     (every _ (λ x. All-map (λ y. before y (1 ∷ x) ≡ false) (λ d. 2 ∷ d) (bisections n) (every _ (λ y. refl) (bisections n))) (bisections n)))
 
 pub sorted_lawful : (m : Model) (limit : ℕ) → Sorted before (lawful_bisections m limit)

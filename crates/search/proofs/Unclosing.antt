@@ -1,6 +1,6 @@
 -- Standing, by test and in words. Assumes nothing.
 use Rattle.std.proofs.Common.{◌≡◌, ℕ, zero, suc, ◌<◌, Bool, true, false, not, ◌&&◌, ltb, leb, List, [], ◌∷◌, ◌++◌, length, filter, sym, refl, ap, subst, inl, inr, arith, length-append}
-use Rattle.std.specs.List.{AllByRecursion as All}
+use Rattle.std.specs.List.{AllByRecursion}
 use Rattle.std.proofs.ByRecursion.{All-map, All-weaker}
 use Rattle.std.proofs.lemmas.Bool.{and_parts, and_from, not-true, not-false, not_from_false, not_from_true, or_parts, or_from, and_right, and_cases, lt-ltb, leb-false, lt-leb, both_ways}
 use Rattle.parish.specs.Model.{Model}
@@ -16,20 +16,20 @@ use Rattle.search.specs.Nodes.{free, lots_of, nodes, above, none, closed, stands
 use Rattle.search.specs.Words.{Unclosed, StandingLaw, EmptyNodeLaw}
 use Rattle.search.proofs.Listed.{all_lawful, lawful_has}
 
-none_all : {X : Type 0} (p : X → Bool) (xs : List X) → none p xs ≡ true → All (λ x. p x ≡ false) xs
+none_all : {X : Type 0} (p : X → Bool) (xs : List X) → none p xs ≡ true → AllByRecursion (λ x. p x ≡ false) xs
 none_all p [] e = tt
 none_all p (x ∷ xs) e = let q = and_parts (not (p x)) (none p xs) e in (not-true (p x) q.0, none_all p xs q.1)
 
-all_none : {X : Type 0} (p : X → Bool) (xs : List X) → All (λ x. p x ≡ false) xs → none p xs ≡ true
+all_none : {X : Type 0} (p : X → Bool) (xs : List X) → AllByRecursion (λ x. p x ≡ false) xs → none p xs ≡ true
 all_none p [] h = refl
 all_none p (x ∷ xs) h = and_from (not (p x)) (none p xs) (not_from_false (p x) h.0) (all_none p xs h.1)
 
 -- the nodes above a node are its proper beginnings
-above_has : (P : List Lot → Type 0) (e : List Lot) (x : Lot) (r : List Lot) → All P (above (e ++ x ∷ r)) → P e
+above_has : (P : List Lot → Type 0) (e : List Lot) (x : Lot) (r : List Lot) → AllByRecursion P (above (e ++ x ∷ r)) → P e
 above_has P [] x r h = h.0
 above_has P (y ∷ e) x r h = above_has (λ n. P (y ∷ n)) e x r (map_all P (λ n. y ∷ n) (above (e ++ x ∷ r)) h.1)
 
-all_above : (P : List Lot → Type 0) (n : List Lot) → ((e : List Lot) (x : Lot) (r : List Lot) → e ++ x ∷ r ≡ n → P e) → All P (above n)
+all_above : (P : List Lot → Type 0) (n : List Lot) → ((e : List Lot) (x : Lot) (r : List Lot) → e ++ x ∷ r ≡ n → P e) → AllByRecursion P (above n)
 all_above P [] h = tt
 all_above P (y ∷ n) h =
     (h [] y n refl, All-map P (λ e. y ∷ e) (above n) (all_above (λ e. P (y ∷ e)) n (λ e x r q. h (y ∷ e) x r (ap (λ l. y ∷ l) q))))
@@ -53,7 +53,7 @@ module _ (number : Number) (m : Model) (limit ceiling : ℕ) where
 
   shut : (e : List Lot) → Unclosed number m limit ceiling e → closed number m limit ceiling e ≡ false
   shut e o =
-      let each : All (λ d. before d (lots_of m e) ≡ true → number m limit (lots_of m e) < cost m d) (lawful_bisections m limit) =
+      let each : AllByRecursion (λ d. before d (lots_of m e) ≡ true → number m limit (lots_of m e) < cost m d) (lawful_bisections m limit) =
       All-weaker (Lawful m limit) (λ d. before d (lots_of m e) ≡ true → number m limit (lots_of m e) < cost m d) (λ d w b. o.below_costs d w b) (lawful_bisections m limit) (all_lawful m limit) in
       let low = above_least (cost m) ceiling (suc (number m limit (lots_of m e))) (lawful_before m limit e) o.below_ceiling
       (all_kept_with (λ d. before d (lots_of m e)) (λ d. number m limit (lots_of m e) < cost m d) (lawful_bisections m limit) each) in
@@ -64,7 +64,7 @@ module _ (number : Number) (m : Model) (limit ceiling : ℕ) where
 pub in_words : StandingLaw
 in_words number m limit ceiling n fits = (
   (λ s e x r q.
-      let P : List Lot → Type 0 = λ n. All (λ e. closed number m limit ceiling e ≡ false) (above n) in
+      let P : List Lot → Type 0 = λ n. AllByRecursion (λ e. closed number m limit ceiling e ≡ false) (above n) in
       let h = subst P (sym q) (none_all (closed number m limit ceiling) (above n) s) in
       opened number m limit ceiling e (omega (arith, length-append e (x ∷ r), ap length q)) (above_has (λ e. closed number m limit ceiling e ≡ false) e x r h)),
   (λ w. all_none (closed number m limit ceiling) (above n) (all_above (λ e. closed number m limit ceiling e ≡ false) n (λ e x r q. shut number m limit ceiling e (w e x r q)))),

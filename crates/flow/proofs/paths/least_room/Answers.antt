@@ -1,5 +1,5 @@
 use Rattle.std.proofs.Common.{◌+◌, ◌-◌, ◌<◌, length, sym, refl, ap, ◌∙◌, subst, ap₂, arith}
-use Rattle.std.specs.List.{AllByRecursion as All}
+use Rattle.std.specs.List.{AllByRecursion}
 use Rattle.bisection.specs.Answers.{least}
 use Rattle.flows.specs.declared.items.Arc.{Arc}
 use Rattle.flows.specs.Paths.{room_of}
@@ -13,7 +13,7 @@ loop-level-init c =
     record {
       goes_on = refl;
       reached = omega (arith, c.tail-household.ensures, tail_within (length c.args.marks.now) c.args.links.now c.args.last c.requires.network.ends c.requires.there.0);
-      there = subst (λ v. All (λ (a : Arc). a.link < length c.args.links.now) (path_back c.args.links.now c.args.marks.now (c.args.depth - 1) v)) (sym c.tail-household.ensures) c.requires.there.1;
+      there = subst (λ v. AllByRecursion (λ (a : Arc). a.link < length c.args.links.now) (path_back c.args.links.now c.args.marks.now (c.args.depth - 1) v)) (sym c.tail-household.ensures) c.requires.there.1;
     }
 
 pub arc_to-arc-requires : goal.arc_to-arc-requires
