@@ -1,4 +1,5 @@
 pub mod Parishes
 pub mod Worked
+pub mod Flow
 pub mod Enumerated
 pub mod Full

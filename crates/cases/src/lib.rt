@@ -2,11 +2,19 @@
 #![tactic(auto)]
 
 ghost use Rattle.cases.specs.Worked.{WorkedCases};
+ghost use Rattle.cases.specs.Flow.{FlowCase};
 ghost use Rattle.cases.specs.Enumerated.{EnumeratedCases};
 ghost use Rattle.cases.specs.Full.{FullStrengthsDoNotAdd};
 
 pub fn worked_cases_hold() -> u8
     ensures { WorkedCases }
+{
+    0
+}
+
+// The worked case of flow.
+pub fn flow_case_holds() -> u8
+    ensures { FlowCase }
 {
     0
 }

@@ -2,7 +2,7 @@
 ghost use Rattle.std.specs.Prelude.{◌≡◌, ◌*◌, ◌<◌, ◌≤◌, min, ◌∷◌, length, slice_index, slice_index_or};
 ghost use Rattle.std.specs.List.{AllByRecursion};
 ghost use Rattle.parish.specs.Limits.{strongest_held};
-ghost use Rattle.flows.specs.Paths.{room_of as room-along, least_room, send_all, Open};
+ghost use Rattle.flows.specs.Paths.{room_of as room_along, least_room, send_all, Open};
 ghost use Rattle.flows.specs.Rounds.{Roomed};
 ghost use Rattle.flows.specs.Levels.{no_mark, arc_to, path_before};
 ghost use Rattle.flows.specs.Trees.{Within, Network};
@@ -31,7 +31,7 @@ fn lesser(left: &[u32], room: &[u32], arc: Arc, amount: u32) -> u32
     requires room_there { arc.link < length room.now }
     requires small { slice_index left.now arc.link ≤ strongest_held }
     requires within { slice_index room.now arc.link ≤ 2 * slice_index left.now arc.link }
-    ensures { result ≡ min amount (room-along left.now room.now arc) }
+    ensures { result ≡ min amount (room_along left.now room.now arc) }
 {
     amount.min(room_of(left, room, arc))
 }

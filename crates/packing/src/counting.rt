@@ -38,7 +38,7 @@ fn weight_off(question: &Question, tree: &[u8], household: usize) -> u32
 // What the trees that are hit must weigh at least, where a lot weighs at least so much.
 pub(crate) fn target(question: &Question, tree: &[u8], least: u32) -> u32
     requires { length tree.now ≡ (ground_of question.now).households }
-    ensures { result ≡ target_of (ground_of question.now) (record { tree = tree.entry.now; taken = [] }) least }
+    ensures { result ≡ target_of (ground_of question.now) (record { tree = tree.now; taken = [] }) least }
 {
     let mut off = 0;
     for household in 0..question.households.len() {
