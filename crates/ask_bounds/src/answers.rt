@@ -23,7 +23,7 @@ pub(crate) enum Answer {
 impl fmt::Display for Answer {
     fn fmt<W: fmt::Write>(&self, f: &mut fmt::Formatter<W>) -> fmt::Result {
         match self {
-            Answer::Refused(refusal) => write!(f, "refused {}", refusal.number()),
+            Answer::Refused(refusal) => write!(f, "refused {}", u32::from(*refusal)),
             Answer::Bound(number, charges) => {
                 write!(f, "{number}:")?;
                 for charge in charges.as_slice() {

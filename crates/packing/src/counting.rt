@@ -16,8 +16,8 @@ fn away(question: &Question) -> u8
     ensures { result ≡ lot_byte (other question.now.home) }
 {
     match question.home {
-        Lot::A => Lot::B.byte(),
-        Lot::B => Lot::A.byte(),
+        Lot::A => u8::from(Lot::B),
+        Lot::B => u8::from(Lot::A),
     }
 }
 

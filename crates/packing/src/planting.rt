@@ -23,7 +23,7 @@ fn leads_home(question: &Question, link: usize, household: usize) -> bool
     requires { link < (ground_of question.now).links }
     ensures { result ≡ leads (ground_of question.now) (ground_of question.now).home (λ u. nat_eq u household) link }
 {
-    let home = question.home.byte();
+    let home = u8::from(question.home);
     let from = question.links[link].from;
     let to = question.links[link].to;
     is_usable(question, link)

@@ -1,11 +1,12 @@
 -- Every parish keeps its limits. Assumes nothing.
 use Rattle.std.proofs.Common.{◌≡◌, ℕ, ◌*◌, ◌<◌, ◌≤◌, List, length, get_or, vec_items, sym, subst, arith, rules}
+use Rattle.std.specs.Int.{div_ceil}
 use Rattle.std.proofs.lemmas.Nat.{mul-le}
 use Rattle.std.proofs.ByRecursion.{All-from_get_or, sum_by_le}
 use Rattle.parish.specs.Limits.{most_households, heaviest_held, Joined}
 use Rattle.parish.specs.Model.{Sound, no_household}
 use Rattle.parish.specs.View.{view}
-use Rattle.parish.specs.Weights.{total_weight}
+use Rattle.parish.specs.Weights.{total_weight, half_up}
 use Rattle.parish.specs.declared.items.Household.{Household}
 use Rattle.parish.specs.declared.store.Parish.{Parish}
 
@@ -31,3 +32,7 @@ total_held p =
     let hs = (view p).households in
     let each = sum_by_le (λ (h : Household). h.weight) heaviest_held hs (All-from_get_or (λ (h : Household). h.weight ≤ heaviest_held) hs no_household (λ k lt. (parish_sound p).weights k no_household lt)) in
     omega (arith, each, mul-le (length hs) heaviest_held most_households heaviest_held (parish_sound p).few (omega arith))
+
+-- half a weight rounded up, as the library has it
+pub half_up-div_ceil : (w : ℕ) → div_ceil w 2 ≡ half_up w
+half_up-div_ceil w = omega arith

@@ -9,12 +9,12 @@ pub enum Lot {
     B = 2,
 }
 
-impl Lot {
-    // Its byte in a list of lots.
-    pub fn byte(self) -> u8
-        ensures { result ≡ lot_byte self }
-    {
-        self as u8
+// Its byte in a list of lots.
+impl From<Lot> for u8 {
+    ghost from_gives = { λ lot byte. byte ≡ lot_byte lot };
+
+    fn from(lot: Lot) -> u8 {
+        lot as u8
     }
 }
 

@@ -50,7 +50,7 @@ impl Report for LoadFault {
             out,
             b"refused,sheet,line,field\n",
             [
-                self.refusal().number() as usize,
+                u32::from(self.refusal()) as usize,
                 self.sheet() as usize,
                 self.line(),
                 self.field(),

@@ -185,7 +185,7 @@ fn check_refused(
 fn check_told(rt: &impl Abort, fault: LoadFault, case: Case<'_>) {
     let line = case.line;
     let told = [
-        fault.refusal().number() as usize,
+        u32::from(fault.refusal()) as usize,
         fault.sheet() as usize,
         fault.line(),
         fault.field(),

@@ -41,7 +41,7 @@ impl Parish {
         ensures { Edited (link_table (view self.old) (record { from = from; to = to; strength = strength })) (length (view self.old).links)
             (view self.old) (with_link (view self.old) (record { from = from; to = to; strength = strength })) (view self.new) result }
     {
-        if strength < 1 || strength > MOST_STRENGTH {
+        if !(1..=MOST_STRENGTH).contains(&strength) {
             return Err(Refusal::OutsideLimits);
         }
         let count = self.households.len();

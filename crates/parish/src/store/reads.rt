@@ -25,12 +25,10 @@ impl Parish {
     pub fn total_weight(&self) -> u32
         ensures { result ≡ total_weight (view self.now).households }
     {
-        let households = self.households();
-        let mut total = 0;
-        for household in households {
-            total += household.weight;
-        }
-        total
+        self.households
+            .iter()
+            .map(|household| household.weight)
+            .sum()
     }
 
     // What a lot may weigh at a tolerance in thousandths.
@@ -40,7 +38,7 @@ impl Parish {
         if tolerance > MOST_TOLERANCE {
             return Err(Refusal::OutsideLimits);
         }
-        let half = (self.total_weight() + 1) / 2;
+        let half = self.total_weight().div_ceil(2);
         Ok((1000 + tolerance) * half / 1000)
     }
 }
