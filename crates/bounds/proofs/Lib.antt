@@ -3,3 +3,4 @@ pub mod Adding
 pub mod Filling
 pub mod Indexed
 pub mod Left
+pub mod Over

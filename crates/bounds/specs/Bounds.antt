@@ -6,7 +6,7 @@ use Rattle.parish.specs.declared.items.Link.{Link}
 use Rattle.bisection.specs.Lots.{Lots, Bisects, Extends}
 use Rattle.bisection.specs.Weights.{Balanced}
 use Rattle.bisection.specs.Costs.{cost}
-use Rattle.bisection.specs.Meanings.{Number, cut_charges}
+use Rattle.bisection.specs.Meanings.{Number, Meaning, cut_charges}
 
 -- the strength of each link
 abbrev pub strengths : List Link → List ℕ
@@ -23,6 +23,12 @@ pub record Bounds (m : Model) (limit : ℕ) (lots : List ℕ) (number : ℕ) (ch
   -- for every bisection that extends the list and keeps both lots within the limit, the charges of its cut links sum to the
   -- number or more
   pub paid : (d : List ℕ) → Bisects m d → Extends lots d → Balanced m limit d → number ≤ cut_charges m.links charges d
+
+-- what a lower bound means keeps the law everywhere
+abbrev pub IsLowerBound : Meaning → Type 0
+IsLowerBound B =
+    (m : Model) (limit : ℕ) (lots : List ℕ) → Sound m → Lots m lots
+    → Bounds m limit lots (B.number m limit lots) (B.charges m limit lots)
 
 -- a number that keeps the law everywhere, with some charges
 abbrev pub Lower : Number → Type 0

@@ -5,7 +5,7 @@ use Rattle.parish.specs.Model.{Model}
 use Rattle.parish.specs.declared.refusals.Refusal.{Refusal}
 use Rattle.parish.specs.declared.refusals.Refusal.TheVariants.{WrongList}
 use Rattle.bisection.specs.Lots.{Lots, lots_table}
-use Rattle.bisection.specs.Meanings.{Number, Charges}
+use Rattle.bisection.specs.Meanings.{Number, Meaning}
 use Rattle.bounds.specs.Bounds.{BelowCosts}
 
 -- both lists fit the parish: a lot or none for each household, a charge for each link
@@ -14,10 +14,10 @@ pub record Fit (m : Model) (lots charges : List ℕ) : Type 0 where
   pub charges_fit : length charges ≡ length m.links
 
 -- an answer: the lists fit, the number is as the meaning has it, and the list holds every charge
-pub record Answer (number : Number) (charge : Charges) (m : Model) (limit : ℕ) (lots before after : List ℕ) (n : ℕ) : Type 0 where
+pub record Answer (meaning : Meaning) (m : Model) (limit : ℕ) (lots before after : List ℕ) (n : ℕ) : Type 0 where
   pub fit : Fit m lots before
-  pub says : n ≡ number m limit lots
-  pub fills : after ≡ charge m limit lots
+  pub says : n ≡ meaning.number m limit lots
+  pub fills : after ≡ meaning.charges m limit lots
 
 -- a refusal: the lists do not fit, and nothing is changed
 pub record NoAnswer (m : Model) (lots before after : List ℕ) (e : Refusal) : Type 0 where
@@ -26,9 +26,9 @@ pub record NoAnswer (m : Model) (lots before after : List ℕ) (e : Refusal) : T
   pub leaves : after ≡ before
 
 -- consulted on a parish, a limit and a list of lots, with a list of charges before and after
-abbrev pub Consulted : Number → Charges → Model → ℕ → List ℕ → List ℕ → List ℕ → Result ℕ Refusal → Type 0
-Consulted number charge m limit lots before after (Ok n) = Answer number charge m limit lots before after n
-Consulted number charge m limit lots before after (Err e) = NoAnswer m lots before after e
+abbrev pub Consulted : Meaning → Model → ℕ → List ℕ → List ℕ → List ℕ → Result ℕ Refusal → Type 0
+Consulted meaning m limit lots before after (Ok n) = Answer meaning m limit lots before after n
+Consulted meaning m limit lots before after (Err e) = NoAnswer m lots before after e
 
 -- the number alone: it is refused by the list of lots, and answered it is at most the cost of every bisection that extends
 -- the list and keeps both lots within the limit

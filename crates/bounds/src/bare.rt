@@ -11,11 +11,9 @@ use parish::{Parish, Refusal};
 pub struct Bare;
 
 impl LowerBound for Bare {
-    ghost number = { λ _. bare.number };
+    ghost meaning = { λ _. bare };
 
-    ghost charge = { λ _. bare.charges };
-
-    ghost bounds = { λ s m limit lots sound fit. bare_bounds m limit lots };
+    ghost bounds = { λ _ m limit lots sound fit. bare_bounds m limit lots };
 
     fn consult(
         &self,

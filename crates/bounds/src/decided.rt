@@ -13,7 +13,8 @@ use parish::{Link, Parish, Refusal};
 pub struct Decided;
 
 fn charge_of(lots: &[u8], link: &Link) -> u32
-    requires { (link.now.from < length lots.now) × (link.now.to < length lots.now) }
+    requires from { link.now.from < length lots.now }
+    requires to { link.now.to < length lots.now }
     ensures { result ≡ decided_charge lots.now link.now }
 {
     let from = lots[link.from];
@@ -26,11 +27,9 @@ fn charge_of(lots: &[u8], link: &Link) -> u32
 }
 
 impl LowerBound for Decided {
-    ghost number = { λ _. decided.number };
+    ghost meaning = { λ _. decided };
 
-    ghost charge = { λ _. decided.charges };
-
-    ghost bounds = { λ s m limit lots sound fit. decided_bounds m limit lots };
+    ghost bounds = { λ _ m limit lots sound fit. decided_bounds m limit lots };
 
     fn consult(
         &self,
@@ -44,6 +43,7 @@ impl LowerBound for Decided {
         }
         let links = parish.links();
         let mut sum = 0;
+        // Written by index: of what is written through a zipped `iter_mut` the prover knows nothing.
         for (k, link) in links.iter().enumerate() {
             let charge = charge_of(lots, link);
             charges[k] = charge;

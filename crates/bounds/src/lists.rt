@@ -10,8 +10,5 @@ use parish::Parish;
 pub fn lists_fit(parish: &Parish, lots: &[u8], charges: &[u32]) -> bool
     ensures { MatchBool result (Fit (view parish.now) lots.now charges.now) (Fit (view parish.now) lots.now charges.now → ⊥) }
 {
-    if charges.len() != parish.links().len() {
-        return false;
-    }
-    lots_fit(parish, lots)
+    charges.len() == parish.links().len() && lots_fit(parish, lots)
 }

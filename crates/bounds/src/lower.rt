@@ -1,10 +1,7 @@
 // What a lower bound is.
-ghost use Rattle.std.specs.Prelude.{ℕ, List};
-ghost use Rattle.parish.specs.Model.{Model, Sound};
 ghost use Rattle.parish.specs.View.{view};
-ghost use Rattle.bisection.specs.Lots.{Lots};
-ghost use Rattle.bisection.specs.Meanings.{Number, Charges};
-ghost use Rattle.bounds.specs.Bounds.{Bounds};
+ghost use Rattle.bisection.specs.Meanings.{Meaning};
+ghost use Rattle.bounds.specs.Bounds.{IsLowerBound};
 ghost use Rattle.bounds.specs.Consulting.{Consulted};
 
 use parish::{Parish, Refusal};
@@ -12,9 +9,7 @@ use parish::{Parish, Refusal};
 // A lower bound means one number and one charge for each link, for every parish, limit on the weight of a lot and list of
 // lots. Consulting it answers and fills in these, and does not change it.
 pub trait LowerBound {
-    ghost number: { Self → Number };
-
-    ghost charge: { Self → Charges };
+    ghost meaning: { Self → Meaning };
 
     // Refuses a list of a wrong length and a lot above 2, and then changes nothing.
     fn consult(
@@ -24,7 +19,7 @@ pub trait LowerBound {
         lots: &[u8],
         charges: &mut [u32],
     ) -> Result<u32, Refusal>
-        ensures { Consulted (number self.now) (charge self.now) (view parish.now) «cap» lots.now charges.old charges.new result };
+        ensures { Consulted (meaning self.now) (view parish.now) «cap» lots.now charges.old charges.new result };
 
-    ghost bounds: { (s : Self) (m : Model) (limit : ℕ) (lots : List ℕ) → Sound m → Lots m lots → Bounds m limit lots (number s m limit lots) (charge s m limit lots) };
+    ghost bounds: { (s : Self) → IsLowerBound (meaning s) };
 }

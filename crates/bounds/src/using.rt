@@ -13,22 +13,9 @@ pub fn least_cost<B: LowerBound>(
     cap: u32,
     lots: &[u8],
 ) -> Result<u32, Refusal>
-    ensures { LeastCost (B.number bound.now) (view parish.now) «cap» lots.now result }
+    ensures { LeastCost (B.meaning bound.now).number (view parish.now) «cap» lots.now result }
 {
-    let mut scratch = [0; MOST_LINKS];
-    let charges = &mut scratch[0..parish.links().len()];
-    least_cost_by(bound, parish, cap, lots, charges)
-}
-
-fn least_cost_by<B: LowerBound>(
-    bound: &B,
-    parish: &Parish,
-    cap: u32,
-    lots: &[u8],
-    charges: &mut [u32],
-) -> Result<u32, Refusal>
-    requires { length charges.old ≡ length (view parish.now).links }
-    ensures { LeastCost (B.number bound.now) (view parish.now) «cap» lots.now result }
-{
-    bound.consult(parish, cap, lots, charges)
+    // The charges are not wanted. Nothing is allocated for them.
+    let mut charges = [0; MOST_LINKS];
+    bound.consult(parish, cap, lots, &mut charges[..parish.links().len()])
 }

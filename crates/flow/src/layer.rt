@@ -2,7 +2,6 @@
 ghost use Rattle.parish.specs.View.{view};
 ghost use Rattle.bounds.specs.Consulting.{Consulted};
 ghost use Rattle.flows.specs.Layers.{flow_over};
-ghost use Rattle.bisection.specs.Meanings.{Meaning};
 ghost use Rattle.flows.proofs.Theorems.{flow_bounds};
 
 use super::charges::add_flow;
@@ -15,13 +14,9 @@ use parish::{Parish, Refusal};
 pub struct Flow<B>(pub B);
 
 impl<B: LowerBound> LowerBound for Flow<B> {
-    ghost number = { λ s. (flow_over (record { number = B.LowerBound.number s.0; charges = B.LowerBound.charge s.0 })).number };
+    ghost meaning = { λ s. flow_over (B.meaning s.0) };
 
-    ghost charge = { λ s. (flow_over (record { number = B.LowerBound.number s.0; charges = B.LowerBound.charge s.0 })).charges };
-
-    ghost bounds = { λ s m limit lots sound ok.
-        let below : Meaning = record { number = B.LowerBound.number s.0; charges = B.LowerBound.charge s.0 } in
-        flow_bounds below m limit lots sound ok (B.LowerBound.bounds s.0 m limit lots sound ok) };
+    ghost bounds = { λ s m limit lots sound ok. flow_bounds (B.meaning s.0) m limit lots sound ok (B.bounds s.0 m limit lots sound ok) };
 
     fn consult(
         &self,
@@ -42,9 +37,7 @@ fn consult_over<B: LowerBound>(
     lots: &[u8],
     charges: &mut [u32],
 ) -> Result<u32, Refusal>
-    ensures { Consulted (flow_over (record { number = B.number below.now; charges = B.charge below.now })).number
-        (flow_over (record { number = B.number below.now; charges = B.charge below.now })).charges
-        (view parish.now) «cap» lots.now charges.old charges.new result }
+    ensures { Consulted (flow_over (B.meaning below.now)) (view parish.now) «cap» lots.now charges.old charges.new result }
 {
     let number = below.consult(parish, cap, lots, charges)?;
     let sent = add_flow(parish, lots, charges);

@@ -6,15 +6,15 @@ use Rattle.parish.specs.Limits.{strongest_held}
 use Rattle.parish.specs.Model.{Model, Sound, no_link}
 use Rattle.bisection.specs.Lots.{Lots}
 use Rattle.bounds.specs.Bounds.{strengths}
-use Rattle.bounds.specs.Adding.{added, Adds}
-use Rattle.bounds.proofs.Adding.{added_bounds}
+use Rattle.bounds.specs.Adding.{added, Adds, IsLayer}
+use Rattle.bounds.proofs.Over.{over_bounds}
 use Rattle.bounds.specs.Left.{left_of}
 use Rattle.flows.specs.Cuts.{least_cut, LeastCut}
 use Rattle.flows.specs.Flows.{taken_by}
 use Rattle.flows.specs.Paths.{flow_of, amounts}
 use Rattle.flows.specs.Rounds.{Search, last_room, Searches}
 use Rattle.flows.specs.Levels.{by_levels, flow_charges}
-use Rattle.flows.specs.Layers.{left_over}
+use Rattle.flows.specs.Layers.{flow_addition}
 use Rattle.flows.specs.Laws.{AnySearch, FlowLaws, SameFlow, FlowBounds}
 use Rattle.flows.proofs.Rounds.{last_ended}
 use Rattle.flows.proofs.Ends.{sound_within}
@@ -67,9 +67,8 @@ left_small m below sound k =
 
 pub same_flow : SameFlow
 same_flow B C m limit other lots e =
-    let least : least_cut m lots (left_over B m limit lots) ≡ least_cut m lots (left_over C m other lots) =
-    ap (λ cs. least_cut m lots (left_of m.links cs)) e in
-    (omega arith, ap (λ cs. added cs (flow_charges m lots (left_of m.links cs))) e)
+    let least = ap (λ cs. least_cut m lots (left_of m.links cs)) e in
+    (omega (arith, least), ap (λ cs. added cs (flow_charges m lots (left_of m.links cs))) e)
 
 -- the search level by level is such a search
 pub chosen_searches : (m : Model) (lots left : List ℕ) → Sound m → Lots m lots → Searches m.links lots left (by_levels m.links lots left)
@@ -88,9 +87,10 @@ flow_laws m lots left sound ok long =
       one_group = one_group m lots left seek sound ok long good;
     }
 
-pub flow_bounds : FlowBounds
-flow_bounds B m limit lots sound ok b =
-    let below : List ℕ = B.charges m limit lots in
+pub flow_adds : IsLayer flow_addition
+flow_adds m limit lots below sound ok within =
     let left : List ℕ = left_of m.links below in
-    added_bounds m limit lots (B.number m limit lots) (least_cut m lots left) below (flow_charges m lots left) b
-    (search_adds m limit lots below (by_levels m.links lots left) sound ok b.within (chosen_searches m lots left sound ok))
+    search_adds m limit lots below (by_levels m.links lots left) sound ok within (chosen_searches m lots left sound ok)
+
+pub flow_bounds : FlowBounds
+flow_bounds = over_bounds flow_addition flow_adds

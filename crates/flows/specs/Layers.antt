@@ -1,20 +1,18 @@
 -- What the flow layer means, over any lower bound. Assumes nothing.
-use Rattle.std.specs.Prelude.{ℕ, ◌+◌, List}
-use Rattle.parish.specs.Model.{Model}
 use Rattle.bisection.specs.Meanings.{Meaning}
-use Rattle.bounds.specs.Adding.{added}
+use Rattle.bounds.specs.Adding.{Addition, over}
 use Rattle.bounds.specs.Left.{left_of}
 use Rattle.flows.specs.Cuts.{least_cut}
 use Rattle.flows.specs.Levels.{flow_charges}
 
--- what a bound leaves of each link
-abbrev pub left_over : Meaning → Model → ℕ → List ℕ → List ℕ
-left_over below m limit lots = left_of m.links (below.charges m limit lots)
-
--- the least cut of what the bound below leaves is added to its number, and the amounts of a greatest flow to its charges
-abbrev pub flow_over : Meaning → Meaning
-flow_over below =
+-- the least cut of what the charges below leave is added to the number, and the amounts of a greatest flow to the charges
+abbrev pub flow_addition : Addition
+flow_addition =
     record {
-      number = λ m limit lots. below.number m limit lots + least_cut m lots (left_over below m limit lots);
-      charges = λ m limit lots. added (below.charges m limit lots) (flow_charges m lots (left_over below m limit lots));
+      number = λ m limit lots below. least_cut m lots (left_of m.links below);
+      charges = λ m limit lots below. flow_charges m lots (left_of m.links below);
     }
+
+-- to what a bound answers
+abbrev pub flow_over : Meaning → Meaning
+flow_over below = over flow_addition below

@@ -1,13 +1,14 @@
 -- The laws of the packing layer. Assumes nothing.
-use Rattle.std.proofs.Common.{◌≡◌, ℕ, List, get_or, ap, inl, inr, arith}
+use Rattle.std.proofs.Common.{ℕ, get_or, ap, inl, inr, arith}
 use Rattle.std.proofs.lemmas.Bool.{cases_lt}
+use Rattle.parish.specs.declared.items.Lot.{Lot}
 use Rattle.bisection.specs.Weights.{least_lot_weight}
-use Rattle.bounds.specs.Adding.{added}
-use Rattle.bounds.proofs.Adding.{added_bounds}
+use Rattle.bounds.specs.Adding.{added, IsLayer}
+use Rattle.bounds.proofs.Over.{over_bounds}
 use Rattle.forest.specs.Grounds.{Ground, ground_for}
 use Rattle.forest.specs.Forests.{forest}
 use Rattle.forest.specs.Fewest.{target}
-use Rattle.forest.specs.Layers.{packed_charges, packed_number, ground_over}
+use Rattle.forest.specs.Layers.{packed_charges, packed_number, packing_addition}
 use Rattle.forest.specs.Laws.{PackingLaw, PackingLaws, SamePacking, PackingBounds}
 use Rattle.forest.proofs.Trees.{Fair, forest_right}
 use Rattle.forest.proofs.Ending.{forest_done}
@@ -37,14 +38,11 @@ packing_laws home m limit lots charges sound ok = packing_law (ground_fair home 
 
 pub same_packing : SamePacking
 same_packing home B C m limit lots e =
-    let least_weight : ℕ = least_lot_weight m limit in
-    let number : packed_number (ground_over home B m limit lots) least_weight ≡ packed_number (ground_over home C m limit lots) least_weight =
-    ap (λ cs. packed_number (ground_for home m lots cs) least_weight) e in
-    (omega arith, ap (λ cs. added cs (packed_charges (ground_for home m lots cs))) e)
+    let number = ap (λ cs. packed_number (ground_for home m lots cs) (least_lot_weight m limit)) e in
+    (omega (arith, number), ap (λ cs. added cs (packed_charges (ground_for home m lots cs))) e)
+
+pub packing_is_layer : (home : Lot) → IsLayer (packing_addition home)
+packing_is_layer home m limit lots below sound ok within = packing_adds home m limit lots below sound within
 
 pub packing_bounds : PackingBounds
-packing_bounds home B m limit lots sound ok b =
-    let below : List ℕ = B.charges m limit lots in
-    let G : Ground = ground_for home m lots below in
-    added_bounds m limit lots (B.number m limit lots) (packed_number G (least_lot_weight m limit)) below (packed_charges G) b
-    (packing_adds home m limit lots below sound b.within)
+packing_bounds home = over_bounds (packing_addition home) (packing_is_layer home)

@@ -1,10 +1,9 @@
 -- What the packing layer means, over any lower bound and for a home lot. Assumes nothing.
-use Rattle.std.specs.Prelude.{ℕ, ◌+◌, List}
-use Rattle.parish.specs.Model.{Model}
+use Rattle.std.specs.Prelude.{ℕ, List}
 use Rattle.parish.specs.declared.items.Lot.{Lot}
 use Rattle.bisection.specs.Meanings.{Meaning}
 use Rattle.bisection.specs.Weights.{least_lot_weight}
-use Rattle.bounds.specs.Adding.{added}
+use Rattle.bounds.specs.Adding.{Addition, over}
 use Rattle.forest.specs.Grounds.{Ground, ground_for}
 use Rattle.forest.specs.Forests.{Forest, forest}
 use Rattle.forest.specs.Fewest.{target, fewest}
@@ -17,14 +16,14 @@ packed_charges G = (forest G).taken
 abbrev pub packed_number : Ground → ℕ → ℕ
 packed_number G least_weight = let F : Forest = forest G in fewest G F (target G F least_weight)
 
--- the ground that a bound leaves at a question
-abbrev pub ground_over : Lot → Meaning → Model → ℕ → List ℕ → Ground
-ground_over home below m limit lots = ground_for home m lots (below.charges m limit lots)
-
--- both are added to what the bound below gives
-abbrev pub packing_over : Lot → Meaning → Meaning
-packing_over home below =
+-- both, on the ground that the charges below leave
+abbrev pub packing_addition : Lot → Addition
+packing_addition home =
     record {
-      number = λ m limit lots. below.number m limit lots + packed_number (ground_over home below m limit lots) (least_lot_weight m limit);
-      charges = λ m limit lots. added (below.charges m limit lots) (packed_charges (ground_over home below m limit lots));
+      number = λ m limit lots below. packed_number (ground_for home m lots below) (least_lot_weight m limit);
+      charges = λ m limit lots below. packed_charges (ground_for home m lots below);
     }
+
+-- are added to what a bound answers
+abbrev pub packing_over : Lot → Meaning → Meaning
+packing_over home below = over (packing_addition home) below

@@ -9,7 +9,6 @@ ghost use Rattle.forest.specs.Grounds.{ground_for};
 ghost use Rattle.forest.specs.Layers.{packed_charges, packed_number, packing_over};
 ghost use Rattle.packing.specs.Grounded.{ground_of};
 ghost use Rattle.packing.specs.Stands.{Sized};
-ghost use Rattle.bisection.specs.Meanings.{Meaning};
 ghost use Rattle.forest.proofs.Theorems.{packing_bounds};
 
 use super::counting::{fewest, target};
@@ -30,13 +29,9 @@ pub struct Packing<B> {
 }
 
 impl<B: LowerBound> LowerBound for Packing<B> {
-    ghost number = { λ s. (packing_over s.home (record { number = B.LowerBound.number s.below; charges = B.LowerBound.charge s.below })).number };
+    ghost meaning = { λ s. packing_over s.home (B.meaning s.below) };
 
-    ghost charge = { λ s. (packing_over s.home (record { number = B.LowerBound.number s.below; charges = B.LowerBound.charge s.below })).charges };
-
-    ghost bounds = { λ s m limit lots sound ok.
-        let below : Meaning = record { number = B.LowerBound.number s.below; charges = B.LowerBound.charge s.below } in
-        packing_bounds s.home below m limit lots sound ok (B.LowerBound.bounds s.below m limit lots sound ok) };
+    ghost bounds = { λ s m limit lots sound ok. packing_bounds s.home (B.meaning s.below) m limit lots sound ok (B.bounds s.below m limit lots sound ok) };
 
     fn consult(
         &self,
@@ -58,9 +53,7 @@ fn consult_over<B: LowerBound>(
     lots: &[u8],
     charges: &mut [u32],
 ) -> Result<u32, Refusal>
-    ensures { Consulted (packing_over home (record { number = B.number below.now; charges = B.charge below.now })).number
-        (packing_over home (record { number = B.number below.now; charges = B.charge below.now })).charges
-        (view parish.now) «cap» lots.now charges.old charges.new result }
+    ensures { Consulted (packing_over home (B.meaning below.now)) (view parish.now) «cap» lots.now charges.old charges.new result }
 {
     let number = below.consult(parish, cap, lots, charges)?;
     let more = add_packing(parish, home, cap, lots, charges);

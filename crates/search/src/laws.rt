@@ -43,7 +43,7 @@ pub fn pruned_search_law_holds() -> u8
 
 // So over every lower bound.
 pub fn prunes_rightly<B: LowerBound>(bound: &B) -> u8
-    ensures { PrunesRightly (B.number bound.now) }
+    ensures { PrunesRightly (B.meaning bound.now).number }
 {
     0
 }

@@ -13,6 +13,6 @@ by_lots : (m : Model) (lots charges : List ℕ) → length charges ≡ length m.
 by_lots m lots charges same true e = record { lots_fit = (lots_decided m lots).0 (sym e); charges_fit = same }
 by_lots m lots charges same false e = λ fit. both_ways (lots_fit m lots) (sym e) ((lots_decided m lots).1 fit.lots_fit)
 
-pub returns : goal.returns
-returns c =
+pub returns-then-charges-links : goal.returns-then-charges-links
+returns-then-charges-links c =
     by_lots (view c.args.parish.now) c.args.lots.now c.args.charges.now (omega (arith, ap length c.links.ensures)) c.lots_fit.result c.lots_fit.ensures

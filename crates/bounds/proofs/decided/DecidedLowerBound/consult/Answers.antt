@@ -11,12 +11,6 @@ use Rattle.bounds.specs.Charges.{decided_most}
 use Rattle.bounds.proofs.Filling.{fill_step, filled}
 use Rattle.bounds.proofs.decided.DecidedLowerBound.consult.Goals as goal
 
-pub charge_of-charge-requires : goal.charge_of-charge-requires
-charge_of-charge-requires c =
-    let j = link_joins c.args.parish.now c.links-links.result.now c.loop-k.k c.links-links.ensures c.loop-k-test.true in
-    let fit = c.if-not-lists_fit.ensures in
-    (omega (arith, j.0, fit.lots_fit.long), omega (arith, j.1, fit.lots_fit.long))
-
 -- a charge is no larger than a strength can be
 small : (c : goal.After-charge_of-charge) → c.charge_of-charge.result ≤ strongest_held
 small c =
