@@ -4,3 +4,4 @@ pub mod Filling
 pub mod Indexed
 pub mod Left
 pub mod Over
+pub mod Fitting

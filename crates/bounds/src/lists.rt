@@ -7,6 +7,7 @@ use bisection::lots_fit;
 use parish::Parish;
 
 // Whether a list of lots and a list of charges fit a parish.
+#[tactic(auto, using(crate::proofs::Fitting::by_lots))]
 pub fn lists_fit(parish: &Parish, lots: &[u8], charges: &[u32]) -> bool
     ensures { MatchBool result (Fit (view parish.now) lots.now charges.now) (Fit (view parish.now) lots.now charges.now → ⊥) }
 {

@@ -17,5 +17,25 @@ pub fn least_cost<B: LowerBound>(
 {
     // The charges are not wanted. Nothing is allocated for them.
     let mut charges = [0; MOST_LINKS];
-    bound.consult(parish, cap, lots, &mut charges[..parish.links().len()])
+    least_cost_by(
+        bound,
+        parish,
+        cap,
+        lots,
+        &mut charges[..parish.links().len()],
+    )
+}
+
+// The same, with a place for each charge.
+fn least_cost_by<B: LowerBound>(
+    bound: &B,
+    parish: &Parish,
+    cap: u32,
+    lots: &[u8],
+    charges: &mut [u32],
+) -> Result<u32, Refusal>
+    requires { length charges.old ≡ length (view parish.now).links }
+    ensures { LeastCost (B.meaning bound.now).number (view parish.now) «cap» lots.now result }
+{
+    bound.consult(parish, cap, lots, charges)
 }

@@ -1,4 +1,4 @@
-use Rattle.std.proofs.Common.{◌≡◌, ℕ, cond, not, List, length, Some, None, Ok, Err, Result, sym, ap, ◌∙◌, inl, inr, arith, rules}
+use Rattle.std.proofs.Common.{◌≡◌, ℕ, cond, not, List, length, Some, None, Ok, Err, Result, sym, ap, ◌∙◌, inl, inr, arith}
 use Rattle.std.proofs.lemmas.Bool.{cases_Bool}
 use Rattle.parish.specs.Edits.{answered, answer_by}
 use Rattle.parish.specs.Model.{Model}
@@ -13,7 +13,7 @@ use Rattle.bisection.specs.Meanings.{Meaning}
 use Rattle.bounds.specs.Bounds.{Bounds}
 use Rattle.bounds.specs.Consulting.{Consulted, LeastCost}
 use Rattle.bounds.proofs.Sums.{below_costs}
-use Rattle.bounds.proofs.using.least_cost.Goals as goal
+use Rattle.bounds.proofs.using.least_cost_by.Goals as goal
 
 -- lots that do not fit are refused
 unfit_refuses : (m : Model) (lots : List ℕ) (e : Refusal) (v : ℕ) → (Lots m lots → ⊥) → e ≡ WrongList → Err e ≡ answered (lots_table m lots) v
@@ -43,4 +43,4 @@ returns g c =
     let b = c.args.bound.now in
     least_by (g.B.LowerBound.meaning b) (view c.args.parish.now) c.args.cap c.args.lots.now
     (g.met.B.LowerBound.bounds b _ c.args.cap c.args.lots.now (parish_sound c.args.parish.now))
-    _ _ (search rules) c.consult.result c.consult.ensures
+    _ _ c.requires c.consult.result c.consult.ensures
