@@ -12,6 +12,7 @@ pub trait LowerBound {
     ghost meaning: { Self → Meaning };
 
     // Refuses a list of a wrong length and a lot above 2, and then changes nothing.
+    // What is asked stands in parameters: a caller lends its parish and its two lists for the one call, and keeps no question.
     fn consult(
         &self,
         parish: &Parish,

@@ -1,14 +1,12 @@
-use Rattle.std.proofs.Common.{◌≡◌, ◌≤◌, map, length, get_or, sum_by, sym, ap, ◌∙◌, arith, rules}
-use lib.ListN.{length-map}
-use Rattle.std.proofs.lemmas.List.{get_or-map, take_all}
+use Rattle.std.proofs.Common.{◌≤◌, map, get_or, sym, ◌∙◌, arith, rules}
+use Rattle.std.proofs.lemmas.List.{get_or-map}
 use Rattle.std.proofs.lemmas.List.Sums.{sum_by_more}
 use Rattle.parish.specs.Limits.{strongest_held}
 use Rattle.parish.specs.Model.{no_link}
-use Rattle.parish.specs.View.{view}
 use Rattle.bisection.specs.Meanings.{decided_charge}
 use Rattle.bisection.proofs.Steps.{link_joins}
 use Rattle.bounds.specs.Charges.{decided_most}
-use Rattle.bounds.proofs.Filling.{fill_step, filled}
+use Rattle.bounds.proofs.Filling.{fill_step}
 use Rattle.bounds.proofs.decided.DecidedLowerBound.consult.Goals as goal
 
 -- a charge is no larger than a strength can be
@@ -17,9 +15,6 @@ small c =
     let ls = c.links-links.result.now in
     let j = link_joins c.args.parish.now ls c.loop-k.k c.links-links.ensures c.loop-k-test.true in
     omega (arith, j.4, decided_most c.args.lots.now (get_or ls c.loop-k.k no_link), c.charge_of-charge.ensures)
-
-pub overflow_add-sum : goal.overflow_add-sum
-overflow_add-sum c = let s = small c in search rules
 
 pub loop-k-preserved : goal.loop-k-preserved
 loop-k-preserved c =
@@ -32,15 +27,3 @@ loop-k-preserved c =
       omega (arith, c.loop-k.invariant.1, e, sum_by_more f ls k no_link c.loop-k-test.true),
       omega (arith, c.loop-k.invariant.2, s),
     )
-
-pub returns : goal.returns
-returns c =
-    let ls = c.links-links.result.now in
-    let f = decided_charge c.args.lots.now in
-    let fit = c.if-not-lists_fit.ensures in
-    let same : ls ≡ (view c.args.parish.now).links = c.links-links.ensures in
-    record {
-      fit = fit;
-      says = c.loop-k.invariant.1 ∙ ap (sum_by f) (take_all c.loop-k.k ls c.loop-k-test.false ∙ same);
-      fills = filled 0 c.loop-k.charges (map f ls) c.loop-k.k (omega (arith, fit.charges_fit, length-map ls f, ap length same)) (omega (arith, fit.charges_fit, ap length same)) c.loop-k.invariant.0 ∙ ap (map f) same;
-    }
