@@ -237,7 +237,7 @@ link_spelt p line fs d three e =
     listed (x ∷ (y ∷ (z ∷ (u ∷ gs)))) l = absurd (let w : ⊥ = omega arith in w)
 
 -- a link that is refused
-pub link_refused : (p : Place) (m m' changed : Model) (l : Link) (n k : ℕ) (e : Refusal) → Edited (link_table m l) n m changed m' (Err e)
+pub link_refused : (p : Place) (m m' changed : Model) (l : Link) (n : ℕ) (k : Option ℕ) (e : Refusal) → Edited (link_table m l) n m changed m' (Err e)
     → k ≡ blamed_in_link (length m.households) l e → (accepted-by links_kind p m l ≡ Err (record { place = p; field = k; refusal = e })) × (m' ≡ m)
 link_refused p m m' changed l n k e edited blamed =
     let why = answer_err (first_applying (link_table m l)) n e (sym edited.answer) in (
