@@ -33,7 +33,7 @@ fn read_lines<K: SheetKind>(
         place.line += 1;
     }
     if !reader.rest().is_empty() {
-        return Err(LoadFault::Line(LineFault::WrongCount(place)));
+        return Err(LineFault::WrongCount(place).into());
     }
     Ok(())
 }
@@ -89,15 +89,10 @@ pub fn read(
     ensures result { LoadResult households.now links.now (view parish.old) (view parish.new) result }
     ensures scratch { view spare.new ≡ no_model }
 {
-    match read_whole(spare, households, links) {
-        Ok(counts) => {
-            std::mem::swap(parish, spare);
-            spare.clear();
-            Ok(counts)
-        }
-        Err(fault) => {
-            spare.clear();
-            Err(fault)
-        }
+    let loaded = read_whole(spare, households, links);
+    if loaded.is_ok() {
+        std::mem::swap(parish, spare);
     }
+    spare.clear();
+    loaded
 }

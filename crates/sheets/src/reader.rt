@@ -10,20 +10,6 @@ pub(crate) struct Reader<'a> {
     ghost within: { place ≤ length bytes.now },
 }
 
-// Where the first byte `end` stands, or how many bytes there are where there is none.
-fn position(bytes: &[u8], end: u8) -> usize
-    ensures within { result ≤ length bytes.now }
-    ensures before { (k : ℕ) → k < result → slice_index bytes.now k ≢ end }
-    ensures found { result < length bytes.now → slice_index bytes.now result ≡ end }
-{
-    for (i, byte) in bytes.iter().enumerate() {
-        if *byte == end {
-            return i;
-        }
-    }
-    bytes.len()
-}
-
 impl<'a> Reader<'a> {
     pub(crate) fn new(bytes: &'a [u8]) -> Reader<'a>
         ensures bytes { result.bytes.now ≡ bytes.now }
@@ -46,11 +32,8 @@ impl<'a> Reader<'a> {
             (drop self.new.place self.old.bytes.now) result }
     {
         let rest = self.rest();
-        let n = position(rest, end);
-        if n == rest.len() {
-            return None;
-        }
-        self.place += n + 1;
-        Some(&rest[0..n])
+        let length = rest.iter().position(|byte| *byte == end)?;
+        self.place += length + 1;
+        Some(&rest[..length])
     }
 }

@@ -51,12 +51,12 @@ fn household_by(place: Place, weight: &[u8], pin: &[u8]) -> Result<Household, Li
     Ok(Household { weight, pin })
 }
 
-// The field of a household's line that a refusal blames: the weight is field 1.
-fn blamed_in_household(refusal: Refusal) -> usize
+// The field of a household's line that a refusal blames, if it blames one: the weight is field 1.
+fn blamed_in_household(refusal: Refusal) -> Option<usize>
     ensures { result ≡ blamed_in_household refusal }
 {
     match refusal {
-        Refusal::OutsideLimits => 1,
-        _ => 0,
+        Refusal::OutsideLimits => Some(1),
+        _ => None,
     }
 }

@@ -67,14 +67,13 @@ fn link_by(place: Place, from: &[u8], to: &[u8], strength: &[u8]) -> Result<Link
 
 // The field of a link's line that a refusal blames: the leftmost end that is no household, the second end of a link to
 // itself, or the strength.
-fn blamed_in_link(households: usize, link: Link, refusal: Refusal) -> usize
+fn blamed_in_link(households: usize, link: Link, refusal: Refusal) -> Option<usize>
     ensures { result ≡ blamed_in_link households link refusal }
 {
     match refusal {
-        Refusal::OutsideLimits => 3,
-        Refusal::NoHousehold if link.from >= households => 1,
-        Refusal::NoHousehold => 2,
-        Refusal::SelfLink => 2,
-        _ => 0,
+        Refusal::OutsideLimits => Some(3),
+        Refusal::NoHousehold if link.from >= households => Some(1),
+        Refusal::NoHousehold | Refusal::SelfLink => Some(2),
+        _ => None,
     }
 }
