@@ -10,6 +10,7 @@ use Rattle.std.proofs.lemmas.Slice.{first_rest}
 use Rattle.std.proofs.lemmas.Bool.{and_parts, and_from, cases_eq}
 use Rattle.std.proofs.lemmas.Bool.Decides.{nat_tests}
 use Rattle.std.specs.Str.{all_ascii_digits}
+use lib.Pointwise.{pointwise}
 use Rattle.std.specs.Int.{IsInRange}
 use Rattle.std.specs.Char.{is_ascii_digit}
 use Rattle.parish.specs.declared.items.Lot.{Lot}
@@ -164,6 +165,13 @@ same_self (x ∷ xs) = and_from (eqb x x) (same xs xs) (eq-eqb x x refl) (same_s
 
 pub same_decides : (xs ys : List ℕ) → Decides (same xs ys) (xs ≡ ys)
 same_decides xs ys = (same_true xs ys, λ e. subst (λ zs. same xs zs ≡ true) e (same_self xs))
+
+-- as slices are compared
+pub same_by_items : (xs ys : List ℕ) → same xs ys ≡ pointwise eqb xs ys
+same_by_items [] [] = refl
+same_by_items [] (y ∷ ys) = refl
+same_by_items (x ∷ xs) [] = refl
+same_by_items (x ∷ xs) (y ∷ ys) = ap (λ t. eqb x y && t) (same_by_items xs ys)
 
 pub differ : (xs ys : List ℕ) → (xs ≡ ys → ⊥) → same xs ys ≡ false
 differ xs ys ne = elim (same xs ys) as (λ t. same xs ys ≡ t → t ≡ false) [ true ↦ λ e. absurd (ne (same_true xs ys e)) | false ↦ λ e. refl ] refl

@@ -212,29 +212,15 @@ link_by_fields p a b c =
           ] refl
     ] refl
 
--- the fields that a line was cut into
-pub household_spelt : (p : Place) (line : List ℕ) (fs : List (Bor (List ℕ))) (d : Bor (List ℕ)) → length fs ≡ 2 → map (λ x. x.now) fs ≡ pieces 44 line
-    → household_by p (get_or fs 0 d).now (get_or fs 1 d).now ≡ spelt households_kind p line
-household_spelt p line fs d two e =
-    household_by_fields p (get_or fs 0 d).now (get_or fs 1 d).now ∙ ap (spelt_by households_kind p) (sym (listed fs two) ∙ e)
-  where
-    listed : (gs : List (Bor (List ℕ))) → length gs ≡ 2 → map (λ x. x.now) gs ≡ (get_or gs 0 d).now ∷ ((get_or gs 1 d).now ∷ [])
-    listed [] l = absurd (let z : ⊥ = omega arith in z)
-    listed (x ∷ []) l = absurd (let z : ⊥ = omega arith in z)
-    listed (x ∷ (y ∷ [])) l = refl
-    listed (x ∷ (y ∷ (z ∷ gs))) l = absurd (let w : ⊥ = omega arith in w)
+-- the fields that a line was cut into, one after another
+pub household_spelt : (p : Place) (line a b rest : List ℕ) → pieces 44 line ≡ a ∷ pieces 44 rest → pieces 44 rest ≡ b ∷ []
+    → household_by p a b ≡ spelt households_kind p line
+household_spelt p line a b rest one two = household_by_fields p a b ∙ ap (spelt_by households_kind p) (sym (one ∙ ap (λ fs. a ∷ fs) two))
 
-pub link_spelt : (p : Place) (line : List ℕ) (fs : List (Bor (List ℕ))) (d : Bor (List ℕ)) → length fs ≡ 3 → map (λ x. x.now) fs ≡ pieces 44 line
-    → link_by p (get_or fs 0 d).now (get_or fs 1 d).now (get_or fs 2 d).now ≡ spelt links_kind p line
-link_spelt p line fs d three e =
-    link_by_fields p (get_or fs 0 d).now (get_or fs 1 d).now (get_or fs 2 d).now ∙ ap (spelt_by links_kind p) (sym (listed fs three) ∙ e)
-  where
-    listed : (gs : List (Bor (List ℕ))) → length gs ≡ 3 → map (λ x. x.now) gs ≡ (get_or gs 0 d).now ∷ ((get_or gs 1 d).now ∷ ((get_or gs 2 d).now ∷ []))
-    listed [] l = absurd (let z : ⊥ = omega arith in z)
-    listed (x ∷ []) l = absurd (let z : ⊥ = omega arith in z)
-    listed (x ∷ (y ∷ [])) l = absurd (let w : ⊥ = omega arith in w)
-    listed (x ∷ (y ∷ (z ∷ []))) l = refl
-    listed (x ∷ (y ∷ (z ∷ (u ∷ gs)))) l = absurd (let w : ⊥ = omega arith in w)
+pub link_spelt : (p : Place) (line a b c more rest : List ℕ) → pieces 44 line ≡ a ∷ pieces 44 more → pieces 44 more ≡ b ∷ pieces 44 rest
+    → pieces 44 rest ≡ c ∷ [] → link_by p a b c ≡ spelt links_kind p line
+link_spelt p line a b c more rest one two three =
+    link_by_fields p a b c ∙ ap (spelt_by links_kind p) (sym (one ∙ ap (λ fs. a ∷ fs) (two ∙ ap (λ fs. b ∷ fs) three)))
 
 -- a link that is refused
 pub link_refused : (p : Place) (m m' changed : Model) (l : Link) (n : ℕ) (k : Option ℕ) (e : Refusal) → Edited (link_table m l) n m changed m' (Err e)

@@ -1,11 +1,12 @@
 -- Reading a sheet of any lawful kind: it succeeds just where the sheet spells records that the parish can take, and else
 -- gives the first fault. Assumes nothing.
-use Rattle.std.proofs.Common.{◌≡◌, ℕ, zero, suc, ◌+◌, ◌<◌, Bool, true, false, cond, eqb, ◌⊎◌, List, [], ◌∷◌, ◌++◌, length, get_or, Some, None, Ok, Err, Option, Result, sym, refl, ap, ◌∙◌, subst, inl, inr, ⊎_elim, arith, eq-eqb, ne_eqb, eqb-true}
+use Rattle.std.proofs.Common.{◌≡◌, ℕ, zero, suc, ◌+◌, ◌<◌, Bool, true, false, cond, eqb, ◌⊎◌, List, [], ◌∷◌, ◌++◌, length, get_or, Some, None, Ok, Err, Option, Result, Bor, sym, refl, ap, ◌∙◌, subst, inl, inr, ⊎_elim, arith, eq-eqb, ne_eqb, eqb-true}
 use borrow.Author.Tests.{eqb-false, clash}
 use Rattle.std.proofs.ByRecursion.{All-append}
 use Rattle.std.proofs.lemmas.List.{append_assoc, append-nil}
 use Rattle.std.proofs.lemmas.Bool.{cond-true, cond-false}
-use Rattle.std.specs.Option.{option_map}
+use Rattle.std.specs.Option.{option_map, option_eq}
+use lib.Pointwise.{pointwise}
 use Rattle.std.specs.List.{flat_map, AllByRecursion}
 use Rattle.parish.specs.declared.refusals.Refusal.{Refusal}
 use Rattle.parish.specs.Edits.{answer_by}
@@ -20,9 +21,9 @@ use Rattle.spelling.specs.Fields.{same}
 use Rattle.spelling.specs.Kinds.{Kind}
 use Rattle.spelling.specs.Laws.{line_of, sheet_of, never, Plain, Opens, LineFails, unended, miscounted, unwanted, refused, SheetFails, misnamed, bad_line}
 use Rattle.spelling.specs.Lines.{and_then, raised, first_unwanted, line_fault, place_of, spelt, spelt_by, accepted, line_read, lines_read, all_read, sheet_read}
-use Rattle.spelling.specs.Pieces.{pieces, glued, Lacks}
+use Rattle.spelling.specs.Pieces.{pieces, glued, Lacks, Parted}
 use Rattle.spelling.proofs.Cutting.{pieces_some, pieces_lack, pieces_free, pieces_at, pieces_glued, pieces_whole, glued_pieces}
-use Rattle.spelling.proofs.Digits.{same_true, same_self, same_decides, differ}
+use Rattle.spelling.proofs.Digits.{same_true, same_self, same_decides, same_by_items, differ}
 
 -- what a kind of sheet has to keep
 pub record LawfulKind {R : Type 0} (K : Kind R) : Type 0 where
@@ -223,6 +224,16 @@ module _ {R : Type 0} (K : Kind R) where
   names_step : (m : Model) (sheet after line : List ℕ) → pieces 10 sheet ≡ line ∷ pieces 10 after
       → sheet_read K m sheet ≡ cond (same line K.names) (lines_read K 2 m (pieces 10 after)) (Err (Line (WrongNames (place_of K 1))))
   names_step m sheet after line cut = ap (all_read K m) cut ∙ all_step m line (pieces 10 after) (pieces_some 10 after)
+
+  -- what is read, by the part up to the first byte 10
+  pub names_read : (m : Model) (sheet after : List ℕ) (o : Option (Bor (List ℕ))) (names : Bor (List ℕ)) → Parted 10 sheet after o → names.now ≡ K.names
+      → sheet_read K m sheet
+      ≡ cond (option_eq (λ x y. pointwise eqb x.now y.now) o (Some names)) (lines_read K 2 m (pieces 10 after)) (Err (Line (WrongNames (place_of K 1))))
+  names_read m sheet after None names p e = ap (all_read K m) p.0
+  names_read m sheet after (Some line) names p e =
+      names_step m sheet after line.now p.0
+      ∙ ap (λ t. cond t (lines_read K 2 m (pieces 10 after)) (Err (Line (WrongNames (place_of K 1)))))
+      (ap (same line.now) (sym e) ∙ same_by_items line.now names.now)
 
   pub names_wrong : (m : Model) (sheet after line : List ℕ) → pieces 10 sheet ≡ line ∷ pieces 10 after → (line ≡ K.names → ⊥)
       → sheet_read K m sheet ≡ Err (Line (WrongNames (place_of K 1)))
