@@ -27,6 +27,7 @@ fn read_lines<K: SheetKind>(reader: &mut Reader<'_>, parish: &mut Parish) -> Res
     while let Some(line) = reader.part(b'\n') {
         let record = K::record(place, line)?;
         K::add(parish, place, record)?;
+        // Counted beside the parts, since what no byte 10 ends has a line number too.
         place.line += 1;
     }
     if !reader.rest().is_empty() {
@@ -65,9 +66,10 @@ fn read_whole(parish: &mut Parish, households: &[u8], links: &[u8]) -> Result<Co
         (λ f. Faulty households.now links.now f) }
 {
     read_both(parish, households, links)?;
-    let households = parish.households().len();
-    let links = parish.links().len();
-    Ok(Counts { households, links })
+    Ok(Counts {
+        households: parish.households().len(),
+        links: parish.links().len(),
+    })
 }
 
 // Replaces a parish by the one that two sheets spell, and answers its counts; on a fault the parish stays as it was. The
