@@ -49,9 +49,8 @@ fn main(rt: HostRuntime) -> anyhow::Result<()> {
     let mut parish = Parish::new(heap)?;
     let mut spare = Parish::new(heap)?;
     let start = Instant::now(&rt)?;
-    let counts = load(&mut parish, &mut spare, &households, &links).map_err(|_| anyhow!(
-        "the sheets are refused"
-    ))?;
+    let loaded = load(&mut parish, &mut spare, &households, &links);
+    let counts = loaded.map_err(|_| anyhow!("the sheets are refused"))?;
     let micros = start.elapsed(&rt)?.as_micros() / u128::from(LOADS);
     println!(rt;
         "{} households, {} links, {LOADS} loads",
