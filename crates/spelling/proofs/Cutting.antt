@@ -135,7 +135,3 @@ part_found b n place bytes unread rest view e first =
 pub part_none : (b : ℕ) (unread rest : List ℕ) → rest ≡ unread → AllWithin (λ x. x ≢ b) rest 0 (length rest) → pieces b unread ≡ unread ∷ []
 part_none b unread rest e ne =
     subst (λ s. pieces b s ≡ s ∷ []) e (pieces_whole b rest (All-from_get_or (λ x. x ≢ b) rest 0 (λ k lt. ne k 0 (omega arith) lt)))
-
--- past the last piece there is nothing
-pub numbered_past : (b k : ℕ) (s : List ℕ) → pieces b s ≡ s ∷ [] → 2 ≤ k → numbered k (pieces b s) ≡ []
-numbered_past b k s e le = ap (numbered k) e ∙ get_or_past ([] ∷ (s ∷ [])) k [] le

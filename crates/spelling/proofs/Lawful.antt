@@ -1,6 +1,7 @@
 -- Both kinds of sheet are lawful. Assumes nothing.
 use Rattle.std.proofs.Common.{◌≡◌, ℕ, ◌^◌, ◌<◌, ◌≤◌, Bool, true, false, cond, not, ◌&&◌, ◌||◌, eqb, ltb, leb, List, [], ◌∷◌, ◌++◌, map, length, get_or, is_some, Some, None, Err, codes, decimal, Option, unwrap_or, sym, refl, ap, ◌∙◌, subst, arith, Bor, ltb-false, le-ltb, ne_eqb, leb-false}
 use borrow.Author.Tests.{eqb-false, lt-leb, not-true, clash}
+use Rattle.std.proofs.lemmas.Grind.{common_steps}
 use Rattle.std.proofs.lemmas.List.{append_assoc, append-nil, get_or_at, length-append, length_push}
 use Rattle.std.proofs.lemmas.Bool.{and_parts, or_parts, or_from}
 use Rattle.std.specs.Option.{option_map}
@@ -193,24 +194,10 @@ links_lawful =
 
 -- ---- field by field
 household_by_fields : (p : Place) (a b : List ℕ) → household_by p a b ≡ spelt_by households_kind p (a ∷ (b ∷ []))
-household_by_fields p a b =
-    elim (number_of a) as (λ o. number_of a ≡ o → household_by p a b ≡ spelt_by households_kind p (a ∷ (b ∷ []))) [
-      | None ↦ λ x. simp x
-      | Some w ↦ λ x.
-          elim (pin_of b) as (λ o. pin_of b ≡ o → household_by p a b ≡ spelt_by households_kind p (a ∷ (b ∷ []))) [ None ↦ λ y. simp (x, y) | Some q ↦ λ y. simp (x, y) ] refl
-    ] refl
+household_by_fields p a b = grind (arith, common_steps)
 
 link_by_fields : (p : Place) (a b c : List ℕ) → link_by p a b c ≡ spelt_by links_kind p (a ∷ (b ∷ (c ∷ [])))
-link_by_fields p a b c =
-    elim (number_of a) as (λ o. number_of a ≡ o → link_by p a b c ≡ spelt_by links_kind p (a ∷ (b ∷ (c ∷ [])))) [
-      | None ↦ λ x. simp x
-      | Some from ↦ λ x.
-          elim (number_of b) as (λ o. number_of b ≡ o → link_by p a b c ≡ spelt_by links_kind p (a ∷ (b ∷ (c ∷ [])))) [
-            | None ↦ λ y. simp (x, y)
-            | Some to ↦ λ y.
-                elim (number_of c) as (λ o. number_of c ≡ o → link_by p a b c ≡ spelt_by links_kind p (a ∷ (b ∷ (c ∷ [])))) [ None ↦ λ z. simp (x, y, z) | Some strength ↦ λ z. simp (x, y, z) ] refl
-          ] refl
-    ] refl
+link_by_fields p a b c = grind (arith, common_steps)
 
 -- the fields that a line was cut into, one after another
 pub household_spelt : (p : Place) (line a b rest : List ℕ) → pieces 44 line ≡ a ∷ pieces 44 rest → pieces 44 rest ≡ b ∷ []
@@ -221,13 +208,3 @@ pub link_spelt : (p : Place) (line a b c more rest : List ℕ) → pieces 44 lin
     → pieces 44 rest ≡ c ∷ [] → link_by p a b c ≡ spelt links_kind p line
 link_spelt p line a b c more rest one two three =
     link_by_fields p a b c ∙ ap (spelt_by links_kind p) (sym (one ∙ ap (λ fs. a ∷ fs) (two ∙ ap (λ fs. b ∷ fs) three)))
-
--- a link that is refused
-pub link_refused : (p : Place) (m m' changed : Model) (l : Link) (n : ℕ) (k : Option ℕ) (e : Refusal) → Edited (link_table m l) n m changed m' (Err e)
-    → k ≡ blamed_in_link (length m.households) l e → (accepted-by links_kind p m l ≡ Err (record { place = p; field = k; refusal = e })) × (m' ≡ m)
-link_refused p m m' changed l n k e edited blamed =
-    let why = answer_err (first_applying (link_table m l)) n e (sym edited.answer) in (
-      ap (λ o. answer_by (option_map (λ d. record { place = p; field = blamed_in_link (length m.households) l d; refusal = d }) o) (links_kind.with_more m (l ∷ []))) why
-          ∙ ap (λ j. Err (record { place = p; field = j; refusal = e })) (sym blamed),
-      edited.leaves ∙ ap (λ o. left_by o m changed) why,
-    )
