@@ -4,6 +4,7 @@ use borrow.Author.Tests.{eqb-false, lt-leb, not-true, clash}
 use Rattle.std.proofs.lemmas.Grind.{common_steps}
 use Rattle.std.proofs.lemmas.List.{append_assoc, append-nil, get_or_at, length-append, length_push}
 use Rattle.std.proofs.lemmas.Bool.{and_parts, or_parts, or_from}
+use Rattle.std.proofs.lemmas.Option.{none-some}
 use Rattle.std.specs.Option.{option_map}
 use Rattle.parish.proofs.Kept.{weights_push, joined_push, joined_among_more}
 use Rattle.parish.specs.declared.items.Link.{Link}
@@ -23,11 +24,11 @@ use Rattle.spelling.proofs.Reading.{LawfulKind, answer_err}
 -- a test that passed, and those after it
 passed : {X : Type 0} (t : Bool) (o : Option X) (x : X) → cond t o (Some x) ≡ None → (t ≡ true) × (o ≡ None)
 passed true o x e = (refl, e)
-passed false o x e = absurd (let z : ◌≡◌ {A = ℕ} 0 1 = cc in let w : ⊥ = omega arith in w)
+passed false o x e = absurd (none-some _ (sym e))
 
 -- a row that does not apply, and those after it
 idle : {X : Type 0} (t : Bool) (x : X) (o : Option X) → cond t (Some x) o ≡ None → (t ≡ false) × (o ≡ None)
-idle true x o e = absurd (let z : ◌≡◌ {A = ℕ} 0 1 = cc in let w : ⊥ = omega arith in w)
+idle true x o e = absurd (none-some _ (sym e))
 idle false x o e = (refl, e)
 
 some_value : {X : Type 0} (o : Option X) (d : X) → is_some o ≡ true → o ≡ Some (unwrap_or o d)

@@ -5,6 +5,7 @@ use borrow.Author.Tests.{eqb-false, clash}
 use Rattle.std.proofs.ByRecursion.{All-append}
 use Rattle.std.proofs.lemmas.List.{append_assoc, append-nil}
 use Rattle.std.proofs.lemmas.Bool.{cond-true, cond-false}
+use Rattle.std.proofs.lemmas.Option.{none-some}
 use Rattle.std.specs.Option.{option_map, option_eq}
 use lib.Pointwise.{pointwise}
 use Rattle.std.specs.List.{flat_map, AllByRecursion}
@@ -23,7 +24,7 @@ use Rattle.spelling.specs.Laws.{line_of, sheet_of, never, Plain, Opens, LineFail
 use Rattle.spelling.specs.Lines.{and_then, raised, first_unwanted, line_fault, place_of, spelt, spelt_by, accepted, line_read, lines_read, all_read, sheet_read}
 use Rattle.spelling.specs.Pieces.{pieces, glued, Lacks, Parted}
 use Rattle.spelling.proofs.Cutting.{pieces_some, pieces_lack, pieces_free, pieces_at, pieces_glued, pieces_whole, glued_pieces}
-use Rattle.spelling.proofs.Digits.{same_true, same_self, same_decides, same_by_items, differ}
+use Rattle.spelling.proofs.Digits.{same_self, same_decides, same_by_items, differ}
 
 -- what a kind of sheet has to keep
 pub record LawfulKind {R : Type 0} (K : Kind R) : Type 0 where
@@ -71,10 +72,10 @@ answer_err (Some c) x d e = let z : c ≡ d = cc in ap Some z
 
 mapped_none : {X Y : Type 0} (f : X → Y) (o : Option X) → option_map f o ≡ None → o ≡ None
 mapped_none f None e = refl
-mapped_none f (Some x) e = absurd (let z : ◌≡◌ {A = ℕ} 0 1 = cc in let w : ⊥ = omega arith in w)
+mapped_none f (Some x) e = absurd (none-some _ (sym e))
 
 mapped_some : {X Y : Type 0} (f : X → Y) (o : Option X) (y : Y) → option_map f o ≡ Some y → (x : X) × (o ≡ Some x) × (y ≡ f x)
-mapped_some f None y e = absurd (let z : ◌≡◌ {A = ℕ} 0 1 = cc in let w : ⊥ = omega arith in w)
+mapped_some f None y e = absurd (none-some _ e)
 mapped_some f (Some x) y e = (x, refl, let z : y ≡ f x = cc in z)
 
 -- ---- the fields of a line
@@ -87,8 +88,8 @@ wanted_more w ws f fs k here all (suc j) lt = all j (omega arith)
 unwanted_first : (n : ℕ) (ws : List (List ℕ → Bool)) (fs : List (List ℕ)) (i : ℕ) → first_unwanted n ws fs ≡ Some i
     → (k : ℕ) × (i ≡ n + k) × (k < length fs) × ((j : ℕ) → j < k → get_or ws j never (get_or fs j []) ≡ true)
     × (get_or ws k never (get_or fs k []) ≡ true → ⊥)
-unwanted_first n [] fs i e = absurd (let z : ◌≡◌ {A = ℕ} 0 1 = cc in let w : ⊥ = omega arith in w)
-unwanted_first n (w ∷ ws) [] i e = absurd (let z : ◌≡◌ {A = ℕ} 0 1 = cc in let w : ⊥ = omega arith in w)
+unwanted_first n [] fs i e = absurd (none-some _ e)
+unwanted_first n (w ∷ ws) [] i e = absurd (none-some _ e)
 unwanted_first n (w ∷ ws) (f ∷ fs) i e =
     elim (w f) as (λ t. w f ≡ t → cond t (first_unwanted (n + 1) ws fs) (Some n) ≡ Some i
     → (k : ℕ) × (i ≡ n + k) × (k < length (f ∷ fs)) × ((j : ℕ) → j < k → get_or (w ∷ ws) j never (get_or (f ∷ fs) j []) ≡ true)
@@ -108,7 +109,7 @@ none_wanted n [] (f ∷ fs) l e j lt = absurd (let z : ⊥ = omega arith in z)
 none_wanted n (w ∷ ws) (f ∷ fs) l e j lt =
     elim (w f) as (λ t. w f ≡ t → cond t (first_unwanted (n + 1) ws fs) (Some n) ≡ None → get_or (w ∷ ws) j never (get_or (f ∷ fs) j []) ≡ true) [
       | true ↦ λ here more. wanted_more w ws f fs (length fs) here (none_wanted (n + 1) ws fs (omega arith) more) j lt
-      | false ↦ λ here more. absurd (let z : ◌≡◌ {A = ℕ} 0 1 = cc in let v : ⊥ = omega arith in v)
+      | false ↦ λ here more. absurd (none-some _ (sym more))
     ] refl e
 
 -- and where each is as wanted, no field is found
@@ -143,7 +144,7 @@ module _ (ws : List (List ℕ → Bool)) (p : Place) (fs : List (List ℕ)) wher
       → cond t (option_map (λ i. Field (record { place = p; field = i })) (first_unwanted 1 ws fs)) (Some (WrongCount p)) ≡ None
       → (length fs ≡ length ws) × (first_unwanted 1 ws fs ≡ None)) [
         | true ↦ λ t n. (eqb-true (length fs) (length ws) t, mapped_none (λ i. Field (record { place = p; field = i })) (first_unwanted 1 ws fs) n)
-        | false ↦ λ t n. absurd (let z : ◌≡◌ {A = ℕ} 0 1 = cc in let w : ⊥ = omega arith in w)
+        | false ↦ λ t n. absurd (none-some _ (sym n))
       ] refl e
 
   none_fault : length fs ≡ length ws → first_unwanted 1 ws fs ≡ None → line_fault ws p fs ≡ None
@@ -424,7 +425,7 @@ module _ {R : Type 0} (K : Kind R) (lawful : LawfulKind K) where
         | true ↦ λ t g.
             let rest = lines_ok 2 m m' (q ∷ ps) sound (omega arith) g in (
               rest.0,
-              names_on p rest.0 (glued 10 (q ∷ ps)) [] (same_true p K.names t) (rest.1 ∙ sym (append-nil (lines_of rest.0)))
+              names_on p rest.0 (glued 10 (q ∷ ps)) [] ((same_decides p K.names).0 t) (rest.1 ∙ sym (append-nil (lines_of rest.0)))
                   ∙ append-nil (sheet_of K rest.0),
               rest.2,
               rest.3,
@@ -455,7 +456,7 @@ module _ {R : Type 0} (K : Kind R) (lawful : LawfulKind K) where
             let bad = lines_err 2 m (q ∷ ps) f sound (omega arith) free.1 g in
             let at = bad.4 in
             bad_line bad.0 bad.1 f
-            (names_on p bad.0 (glued 10 (q ∷ ps)) bad.1 (same_true p K.names t) bad.2)
+            (names_on p bad.0 (glued 10 (q ∷ ps)) bad.1 ((same_decides p K.names).0 t) bad.2)
             bad.3
             (subst (λ k. LineFails K (K.with_more m bad.0) (place_of K k) bad.1 f) at.1 at.2)
         | false ↦ λ t g.
