@@ -1,6 +1,7 @@
 -- Both kinds of sheet are lawful. Assumes nothing.
 use Rattle.std.proofs.Common.{◌≡◌, ℕ, ◌^◌, ◌<◌, ◌≤◌, Bool, true, false, cond, not, ◌&&◌, ◌||◌, eqb, ltb, leb, List, [], ◌∷◌, ◌++◌, map, length, get_or, is_some, Some, None, Err, codes, decimal, Option, unwrap_or, sym, refl, ap, ◌∙◌, subst, arith, Bor, ltb-false, le-ltb, ne_eqb, leb-false}
 use borrow.Author.Tests.{eqb-false, lt-leb, not-true, clash}
+use Rattle.std.proofs.lemmas.Bool.Decides.{nat_tests}
 use Rattle.std.proofs.lemmas.Grind.{common_steps}
 use Rattle.std.proofs.lemmas.List.{append_assoc, append-nil, get_or_at, length-append, length_push}
 use Rattle.std.proofs.lemmas.Bool.{and_parts, or_parts, or_from}
@@ -20,16 +21,6 @@ use Rattle.spelling.specs.Lines.{accepted as accepted-by, first_unwanted, spelt,
 use Rattle.spelling.specs.Pieces.{Lacks, pieces}
 use Rattle.spelling.proofs.Digits.{number_fields, number_plain, pin_fields, pin_of_field, pin_plain}
 use Rattle.spelling.proofs.Reading.{LawfulKind, answer_err}
-
--- a test that passed, and those after it
-passed : {X : Type 0} (t : Bool) (o : Option X) (x : X) → cond t o (Some x) ≡ None → (t ≡ true) × (o ≡ None)
-passed true o x e = (refl, e)
-passed false o x e = absurd (none-some _ (sym e))
-
--- a row that does not apply, and those after it
-idle : {X : Type 0} (t : Bool) (x : X) (o : Option X) → cond t (Some x) o ≡ None → (t ≡ false) × (o ≡ None)
-idle true x o e = absurd (none-some _ (sym e))
-idle false x o e = (refl, e)
 
 some_value : {X : Type 0} (o : Option X) (d : X) → is_some o ≡ true → o ≡ Some (unwrap_or o d)
 some_value None d e = absurd (clash e)
@@ -63,10 +54,8 @@ household_forth : (fs : List (List ℕ)) → length fs ≡ 2 → first_unwanted 
 household_forth [] l e = absurd (let z : ⊥ = omega arith in z)
 household_forth (a ∷ []) l e = absurd (let z : ⊥ = omega arith in z)
 household_forth (a ∷ (b ∷ [])) l e =
-    let one = passed (is_some (number_of a)) (cond (is_some (pin_of b)) None (Some 2)) 1 e in
-    let two = passed (is_some (pin_of b)) None 2 one.1 in
-    let w = number_written a one.0 in
-    let p = pin_written b two.0 in
+    let w = number_written a (grind (arith, common_steps)) in
+    let p = pin_written b (grind (arith, common_steps)) in
     cc
 household_forth (a ∷ (b ∷ (c ∷ fs))) l e = absurd (let z : ⊥ = omega arith in z)
 
@@ -75,19 +64,19 @@ households_lawful =
     record {
       forth = household_forth;
       back = λ m h sound e.
-          let light = idle (ltb 10000 h.weight) _ _ e in
-          let w = number_reads h.weight (omega (arith, ltb-false 10000 h.weight light.0)) in
+          let light : h.weight ≤ 10000 = grind (arith, nat_tests, common_steps) in
+          let w = number_reads h.weight (omega (arith, light)) in
           let p = pin_of_field h.pin in
           (refl, simp (w, p), simp (w, p), (number_plain (decimal h.weight) h.weight w, (pin_plain h.pin, tt)));
       named = lacking 10 (codes "weight,lot") refl;
       some = omega arith;
       keeps = λ m h sound e.
-          let light = idle (ltb 10000 h.weight) _ _ e in
-          let room = idle (leb 128 (length m.households)) _ _ light.1 in
+          let light : h.weight ≤ 10000 = grind (arith, nat_tests, common_steps) in
+          let room : length m.households < 128 = grind (arith, nat_tests, common_steps) in
           let long = length_push m.households h in
           record {
-            few = omega (arith, leb-false 128 (length m.households) room.0);
-            weights = weights_push m.households (m.households ++ (h ∷ [])) h refl sound.weights (ltb-false 10000 h.weight light.0);
+            few = omega (arith, room);
+            weights = weights_push m.households (m.households ++ (h ∷ [])) h refl sound.weights light;
             short = sound.short;
             joined = joined_among_more (length m.households) (length (m.households ++ (h ∷ []))) m.links (omega arith) sound.joined;
           };
@@ -106,12 +95,9 @@ link_forth [] l e = absurd (let z : ⊥ = omega arith in z)
 link_forth (a ∷ []) l e = absurd (let z : ⊥ = omega arith in z)
 link_forth (a ∷ (b ∷ [])) l e = absurd (let z : ⊥ = omega arith in z)
 link_forth (a ∷ (b ∷ (c ∷ []))) l e =
-    let one = passed (is_some (number_of a)) (cond (is_some (number_of b)) (cond (is_some (number_of c)) None (Some 3)) (Some 2)) 1 e in
-    let two = passed (is_some (number_of b)) (cond (is_some (number_of c)) None (Some 3)) 2 one.1 in
-    let three = passed (is_some (number_of c)) None 3 two.1 in
-    let from = number_written a one.0 in
-    let to = number_written b two.0 in
-    let strength = number_written c three.0 in
+    let from = number_written a (grind (arith, common_steps)) in
+    let to = number_written b (grind (arith, common_steps)) in
+    let strength = number_written c (grind (arith, common_steps)) in
     cc
 link_forth (a ∷ (b ∷ (c ∷ (d ∷ fs)))) l e = absurd (let z : ⊥ = omega arith in z)
 
@@ -122,22 +108,15 @@ record Accepted (m : Model) (l : Link) : Type 0 where
 
 accepted : (m : Model) (l : Link) → links_kind.refusal m l ≡ None → Accepted m l
 accepted m l e =
-    let n = length m.households in
-    let strong = idle (ltb l.strength 1 || ltb 1000 l.strength) _ _ e in
-    let there = idle (leb n l.from || leb n l.to) _ _ strong.1 in
-    let apart = idle (eqb l.from l.to) _ _ there.1 in
-    let full = idle (leb 1024 (length m.links)) _ _ apart.1 in
-    let s = or_parts (ltb l.strength 1) (ltb 1000 l.strength) strong.0 in
-    let t = or_parts (leb n l.from) (leb n l.to) there.0 in
     record {
       joins = (
-        leb-false n l.from t.0,
-        leb-false n l.to t.1,
-        eqb-false l.from l.to apart.0,
-        ltb-false l.strength 1 s.0,
-        ltb-false 1000 l.strength s.1,
+        grind (arith, nat_tests, common_steps),
+        grind (arith, nat_tests, common_steps),
+        grind (arith, nat_tests, common_steps),
+        grind (arith, nat_tests, common_steps),
+        grind (arith, nat_tests, common_steps),
       );
-      room = leb-false 1024 (length m.links) full.0;
+      room = grind (arith, nat_tests, common_steps);
     }
 
 -- and one that joins two households is accepted where there is room

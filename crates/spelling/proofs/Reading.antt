@@ -5,6 +5,8 @@ use borrow.Author.Tests.{eqb-false, clash}
 use Rattle.std.proofs.ByRecursion.{All-append}
 use Rattle.std.proofs.lemmas.List.{append_assoc, append-nil}
 use Rattle.std.proofs.lemmas.Bool.{cond-true, cond-false}
+use Rattle.std.proofs.lemmas.Bool.Decides.{nat_tests}
+use Rattle.std.proofs.lemmas.Grind.{common_steps}
 use Rattle.std.proofs.lemmas.Option.{none-some}
 use Rattle.std.specs.Option.{option_map, option_eq}
 use lib.Pointwise.{pointwise}
@@ -139,13 +141,7 @@ first_found n (w ∷ ws) (f ∷ fs) (suc k) l lt all bad =
 
 module _ (ws : List (List ℕ → Bool)) (p : Place) (fs : List (List ℕ)) where
   fault_none : line_fault ws p fs ≡ None → (length fs ≡ length ws) × (first_unwanted 1 ws fs ≡ None)
-  fault_none e =
-      elim (eqb (length fs) (length ws)) as (λ t. eqb (length fs) (length ws) ≡ t
-      → cond t (option_map (λ i. Field (record { place = p; field = i })) (first_unwanted 1 ws fs)) (Some (WrongCount p)) ≡ None
-      → (length fs ≡ length ws) × (first_unwanted 1 ws fs ≡ None)) [
-        | true ↦ λ t n. (eqb-true (length fs) (length ws) t, mapped_none (λ i. Field (record { place = p; field = i })) (first_unwanted 1 ws fs) n)
-        | false ↦ λ t n. absurd (none-some _ (sym n))
-      ] refl e
+  fault_none e = grind (arith, nat_tests, common_steps, mapped_none)
 
   none_fault : length fs ≡ length ws → first_unwanted 1 ws fs ≡ None → line_fault ws p fs ≡ None
   none_fault l n = simp (eq-eqb (length fs) (length ws) l, n)
