@@ -1,10 +1,10 @@
 // How long a load of the largest parish takes. The time goes to standard error, since it is never the same.
 #![tactic(auto)]
 
-ghost use Rattle.std.specs.Prelude.{◌≡◌, IfOk, MatchResult};
+ghost use Rattle.std.specs.Prelude.{◌≡◌, ◌++◌, IfOk, MatchResult};
+ghost use Rattle.std.specs.List.{repeat};
 ghost use Rattle.parish.specs.View.{view};
 ghost use Rattle.spelling.specs.Laws.{Loaded, Faulty};
-ghost use Rattle.bench_load.specs.Sheets.{lines};
 
 use anyhow::anyhow;
 use faults::LoadFault;
@@ -17,13 +17,11 @@ const LOADS: u32 = 1000;
 
 // A names line, and a value line so many times.
 fn sheet(heap: Global, names: &[u8], line: &[u8], count: usize) -> Result<Vec<u8>, AllocError>
-    ensures { IfOk result (λ v. v.items ≡ lines names.now line.now count) }
+    ensures { IfOk result (λ v. v.items ≡ names.now ++ repeat count line.now) }
 {
     let mut bytes = Vec::new(heap);
     bytes.extend_from_slice(names)?;
-    for _i in 0..count {
-        bytes.extend_from_slice(line)?;
-    }
+    bytes.extend_from_slice(&line.repeat(heap, count)?)?;
     Ok(bytes)
 }
 
@@ -51,18 +49,13 @@ fn main(rt: HostRuntime) -> anyhow::Result<()> {
     let mut parish = Parish::new(heap)?;
     let mut spare = Parish::new(heap)?;
     let start = Instant::now(&rt)?;
-    let Ok(counts) = load(
-        &mut parish,
-        &mut spare,
-        households.as_slice(),
-        links.as_slice(),
-    ) else {
-        return Err(anyhow!("the sheets are refused"));
-    };
+    let loaded = load(&mut parish, &mut spare, &households, &links);
+    let counts = loaded.map_err(|_| anyhow!("the sheets are refused"))?;
     let micros = start.elapsed(&rt)?.as_micros() / u128::from(LOADS);
-    let households = counts.households;
-    let links = counts.links;
-    println!(rt; "{households} households, {links} links, {LOADS} loads")?;
+    println!(rt;
+        "{} households, {} links, {LOADS} loads",
+        counts.households, counts.links
+    )?;
     eprintln!(rt; "{micros} microseconds a load")?;
     Ok(())
 }

@@ -1,5 +1,6 @@
 -- What is to be read of a load's fault: its refusal, sheet, line, field and layer. Assumes nothing.
 use Rattle.std.specs.Prelude.{ℕ, Some, None, Option}
+use Rattle.std.specs.Option.{unwrap_or}
 use Rattle.parish.specs.declared.refusals.Refusal.{Refusal}
 use Rattle.parish.specs.declared.refusals.Refusal.TheVariants.{WrongNames, WrongCount, WrongField}
 use Rattle.faults.specs.declared.Sheet.{Sheet}
@@ -61,7 +62,7 @@ fault_field (load.Call e) = 0
 fault_field (load.Line (line.WrongNames p)) = 0
 fault_field (load.Line (line.WrongCount p)) = 0
 fault_field (load.Line (line.Field f)) = f.field
-fault_field (load.Parish f) = f.field
+fault_field (load.Parish f) = unwrap_or f.field 0
 
 -- field for 11, line for 9 and 10, else parish
 abbrev pub fault_layer : LoadFault → Layer

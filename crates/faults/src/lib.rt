@@ -5,7 +5,7 @@
 ghost use Rattle.std.specs.Prelude.{◌≡◌};
 ghost use Rattle.faults.specs.declared.LineFault.TheVariants.{Field};
 ghost use Rattle.faults.specs.declared.LoadFault.TheVariants.{Line, Parish};
-ghost use Rattle.faults.specs.Faults.{line_fault_place, fault_refusal, fault_place, fault_sheet, fault_line, fault_field, fault_layer};
+ghost use Rattle.faults.specs.Faults.{sheet_number, line_fault_place, fault_refusal, fault_place, fault_sheet, fault_line, fault_field, fault_layer};
 
 use parish::Refusal;
 
@@ -38,11 +38,11 @@ pub enum LineFault {
     Field(FieldFault),
 }
 
-// A record that the parish refuses, with the field to blame, or 0 where no field is.
+// A record that the parish refuses, with the field to blame, counted from 1, if one is.
 #[derive(Clone, Copy, PartialEq, Eq, Debug)]
 pub struct ParishFault {
     pub place: Place,
-    pub field: usize,
+    pub field: Option<usize>,
     pub refusal: Refusal,
 }
 
@@ -60,6 +60,14 @@ pub enum Layer {
     Field,
     Line,
     Parish,
+}
+
+impl From<Sheet> for u32 {
+    ghost from_gives = { λ sheet r. r ≡ sheet_number sheet };
+
+    fn from(sheet: Sheet) -> u32 {
+        sheet as u32
+    }
 }
 
 impl From<FieldFault> for LineFault {
@@ -91,8 +99,7 @@ impl LineFault {
         ensures { result ≡ line_fault_place self }
     {
         match self {
-            LineFault::WrongNames(place) => place,
-            LineFault::WrongCount(place) => place,
+            LineFault::WrongNames(place) | LineFault::WrongCount(place) => place,
             LineFault::Field(fault) => fault.place,
         }
     }
@@ -112,7 +119,7 @@ impl LoadFault {
     }
 
     // Where it is, unless the call itself is refused.
-    fn place(self) -> Option<Place>
+    pub fn place(self) -> Option<Place>
         ensures { result ≡ fault_place self }
     {
         match self {
@@ -126,20 +133,14 @@ impl LoadFault {
     pub fn sheet(self) -> u32
         ensures { result ≡ fault_sheet self }
     {
-        match self.place() {
-            Some(place) => place.sheet as u32,
-            None => 0,
-        }
+        self.place().map_or(0, |place| u32::from(place.sheet))
     }
 
     // Its line, counted from 1, or 0.
     pub fn line(self) -> usize
         ensures { result ≡ fault_line self }
     {
-        match self.place() {
-            Some(place) => place.line,
-            None => 0,
-        }
+        self.place().map_or(0, |place| place.line)
     }
 
     // Its field, counted from 1, or 0.
@@ -148,7 +149,7 @@ impl LoadFault {
     {
         match self {
             LoadFault::Line(LineFault::Field(fault)) => fault.field,
-            LoadFault::Parish(fault) => fault.field,
+            LoadFault::Parish(fault) => fault.field.unwrap_or(0),
             _ => 0,
         }
     }

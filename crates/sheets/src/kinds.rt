@@ -4,7 +4,7 @@ ghost use Rattle.parish.specs.View.{view};
 ghost use Rattle.spelling.specs.Kinds.{Kind};
 ghost use Rattle.spelling.specs.Lines.{spelt, Added};
 
-use faults::{LineFault, ParishFault, Place};
+use faults::{LineFault, ParishFault, Place, Sheet};
 use parish::Parish;
 
 pub mod households;
@@ -17,6 +17,9 @@ pub trait SheetKind {
     const NAMES: &'static [u8];
 
     ghost kind: { Kind Self.Record };
+
+    fn sheet() -> Sheet
+        ensures { result ≡ kind.sheet };
 
     // `NAMES`, as the kind has it.
     fn names_line() -> &'static [u8]

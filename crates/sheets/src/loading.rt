@@ -1,5 +1,5 @@
 // Reading two sheets into a parish.
-ghost use Rattle.std.specs.Prelude.{◌≡◌, ◌+◌, ◌^◌, ◌<◌, length, drop, MatchResult};
+ghost use Rattle.std.specs.Prelude.{◌≡◌, ◌+◌, ◌^◌, ◌<◌, length, MatchResult};
 ghost use Rattle.parish.specs.Model.{no_model};
 ghost use Rattle.parish.specs.View.{view};
 ghost use Rattle.spelling.specs.Laws.{Loaded, Faulty, LoadResult};
@@ -11,51 +11,44 @@ use super::kinds::SheetKind;
 use super::kinds::households::Households;
 use super::kinds::links::Links;
 use super::reader::Reader;
-use faults::{LineFault, LoadFault, Place, Sheet};
+use faults::{LineFault, LoadFault, Place};
 use parish::Parish;
 use spelling::Counts;
 
 // Reads the value lines that are left, from line 2 on, onto a parish.
-fn read_lines<K: SheetKind>(
-    sheet: Sheet,
-    reader: &mut Reader<'_>,
-    parish: &mut Parish,
-) -> Result<(), LoadFault>
-    requires sheet { sheet ≡ K.SheetKind.kind.sheet }
-    requires short { 2 + length (drop reader.old.place reader.old.bytes.now) < 2 ^ 64 }
-    ensures { Read (lines_read K.SheetKind.kind 2 (view parish.old)
-        (pieces 10 (drop reader.old.place reader.old.bytes.now))) (view parish.new) result }
+fn read_lines<K: SheetKind>(reader: &mut Reader<'_>, parish: &mut Parish) -> Result<(), LoadFault>
+    requires { 2 + length reader.old < 2 ^ 64 }
+    ensures { Read (lines_read K.SheetKind.kind 2 (view parish.old) (pieces 10 reader.old)) (view parish.new) result }
 {
-    let mut place = Place { sheet, line: 2 };
+    let mut place = Place {
+        sheet: K::sheet(),
+        line: 2,
+    };
     while let Some(line) = reader.part(b'\n') {
         let record = K::record(place, line)?;
         K::add(parish, place, record)?;
+        // Counted beside the parts, since what no byte 10 ends has a line number too.
         place.line += 1;
     }
     if !reader.rest().is_empty() {
-        return Err(LoadFault::Line(LineFault::WrongCount(place)));
+        return Err(LineFault::WrongCount(place).into());
     }
     Ok(())
 }
 
 // Reads the bytes of a sheet, its names line first, onto a parish.
-fn read_sheet<K: SheetKind>(
-    sheet: Sheet,
-    bytes: &[u8],
-    parish: &mut Parish,
-) -> Result<(), LoadFault>
-    requires { sheet ≡ K.SheetKind.kind.sheet }
+fn read_sheet<K: SheetKind>(bytes: &[u8], parish: &mut Parish) -> Result<(), LoadFault>
     ensures { Read (sheet_read K.SheetKind.kind (view parish.old) bytes.now) (view parish.new) result }
 {
     let mut reader = Reader::new(bytes);
-    let wrong_names = LoadFault::Line(LineFault::WrongNames(Place { sheet, line: 1 }));
-    let Some(names) = reader.part(b'\n') else {
-        return Err(wrong_names);
+    let first = Place {
+        sheet: K::sheet(),
+        line: 1,
     };
-    if names != K::names_line() {
-        return Err(wrong_names);
+    if reader.part(b'\n') != Some(K::names_line()) {
+        return Err(LineFault::WrongNames(first).into());
     }
-    read_lines::<K>(sheet, &mut reader, parish)
+    read_lines::<K>(&mut reader, parish)
 }
 
 // Reads both sheets into a parish that is emptied first.
@@ -63,8 +56,8 @@ fn read_both(parish: &mut Parish, households: &[u8], links: &[u8]) -> Result<(),
     ensures { Read (loaded households.now links.now) (view parish.new) result }
 {
     parish.clear();
-    read_sheet::<Households>(Sheet::Households, households, parish)?;
-    read_sheet::<Links>(Sheet::Links, links, parish)
+    read_sheet::<Households>(households, parish)?;
+    read_sheet::<Links>(links, parish)
 }
 
 // Reads both sheets into a parish that is emptied first, and answers its counts.
@@ -73,9 +66,10 @@ fn read_whole(parish: &mut Parish, households: &[u8], links: &[u8]) -> Result<Co
         (λ f. Faulty households.now links.now f) }
 {
     read_both(parish, households, links)?;
-    let households = parish.households().len();
-    let links = parish.links().len();
-    Ok(Counts { households, links })
+    Ok(Counts {
+        households: parish.households().len(),
+        links: parish.links().len(),
+    })
 }
 
 // Replaces a parish by the one that two sheets spell, and answers its counts; on a fault the parish stays as it was. The
@@ -89,15 +83,10 @@ pub fn read(
     ensures result { LoadResult households.now links.now (view parish.old) (view parish.new) result }
     ensures scratch { view spare.new ≡ no_model }
 {
-    match read_whole(spare, households, links) {
-        Ok(counts) => {
-            std::mem::swap(parish, spare);
-            spare.clear();
-            Ok(counts)
-        }
-        Err(fault) => {
-            spare.clear();
-            Err(fault)
-        }
+    let loaded = read_whole(spare, households, links);
+    if loaded.is_ok() {
+        std::mem::swap(parish, spare);
     }
+    spare.clear();
+    loaded
 }

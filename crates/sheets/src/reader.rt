@@ -1,56 +1,56 @@
 // A reader of bytes: it yields parts of them, and copies none.
-ghost use Rattle.std.specs.Prelude.{◌≡◌, ℕ, ◌+◌, ◌<◌, ◌≤◌, length, drop, ◌≢◌, slice_index};
-ghost use Rattle.spelling.specs.Pieces.{Parted};
+ghost use Rattle.std.specs.Prelude.{◌≡◌, ◌<◌, [], ◌∷◌, length, MatchOption};
+ghost use Rattle.spelling.specs.Pieces.{pieces, Parted};
+
+use std::marker::Model;
 
 // Bytes, and how many of them have been read.
 #[derive(Drop)]
 pub(crate) struct Reader<'a> {
     bytes: &'a [u8],
     place: usize,
-    ghost within: { place ≤ length bytes.now },
 }
 
-// Where the first byte `end` stands, or how many bytes there are where there is none.
-fn position(bytes: &[u8], end: u8) -> usize
-    ensures within { result ≤ length bytes.now }
-    ensures before { (k : ℕ) → k < result → slice_index bytes.now k ≢ end }
-    ensures found { result < length bytes.now → slice_index bytes.now result ≡ end }
-{
-    for (i, byte) in bytes.iter().enumerate() {
-        if *byte == end {
-            return i;
-        }
-    }
-    bytes.len()
+// Clauses see what has not been read.
+impl<'a> Model for Reader<'a> {
+    ghost use Rattle.std.specs.Prelude.{ℕ, ◌≤◌, List, length, drop};
+
+    ghost Value = { List ℕ };
+
+    ghost view = { λ r. drop r.place r.bytes.now };
+
+    ghost invariant = { λ r. r.place ≤ length r.bytes.now };
 }
 
 impl<'a> Reader<'a> {
     pub(crate) fn new(bytes: &'a [u8]) -> Reader<'a>
-        ensures bytes { result.bytes.now ≡ bytes.now }
-        ensures place { result.place ≡ 0 }
+        ensures { result ≡ bytes.now }
     {
         Reader { bytes, place: 0 }
     }
 
     // What has not been read.
     pub(crate) fn rest(&self) -> &'a [u8]
-        ensures { result.now ≡ drop self.now.place self.now.bytes.now }
+        ensures { result.now ≡ self.now }
     {
         &self.bytes[self.place..]
     }
 
-    // The part up to the next byte `end`, which is passed over; None, with nothing read, where there is no such byte.
-    pub(crate) fn part(&mut self, end: u8) -> Option<&'a [u8]>
-        ensures bytes { self.new.bytes.now ≡ self.old.bytes.now }
-        ensures parted { Parted end (drop self.old.place self.old.bytes.now)
-            (drop self.new.place self.old.bytes.now) result }
+    // What has not been read, if no byte `end` stands there.
+    pub(crate) fn last(&self, end: u8) -> Option<&'a [u8]>
+        ensures { MatchOption result (1 < length (pieces end self.now)) (λ last. pieces end self.now ≡ last.now ∷ []) }
     {
         let rest = self.rest();
-        let n = position(rest, end);
-        if n == rest.len() {
-            return None;
-        }
-        self.place += n + 1;
-        Some(&rest[0..n])
+        (!rest.contains(&end)).then_some(rest)
+    }
+
+    // The part up to the next byte `end`, which is passed over; None, with nothing read, where there is no such byte.
+    pub(crate) fn part(&mut self, end: u8) -> Option<&'a [u8]>
+        ensures { Parted end self.old self.new result }
+    {
+        let rest = self.rest();
+        let length = rest.iter().position(|byte| *byte == end)?;
+        self.place += length + 1;
+        Some(&rest[..length])
     }
 }

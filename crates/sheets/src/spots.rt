@@ -4,7 +4,7 @@ ghost use Rattle.spelling.specs.Pieces.{pieces, numbered};
 ghost use Rattle.sheets.specs.Spots.{spot_of};
 
 use super::reader::Reader;
-use faults::LoadFault;
+use faults::{LoadFault, Sheet};
 
 // The part of a number, counted from 1, between bytes `end`; an empty part where there is none.
 fn numbered_part(bytes: &[u8], end: u8, number: usize) -> &[u8]
@@ -15,14 +15,11 @@ fn numbered_part(bytes: &[u8], end: u8, number: usize) -> &[u8]
     }
     let mut reader = Reader::new(bytes);
     for _i in 1..number {
-        let Some(_) = reader.part(end) else {
+        if reader.part(end).is_none() {
             return &[];
-        };
+        }
     }
-    match reader.part(end) {
-        Some(part) => part,
-        None => reader.rest(),
-    }
+    reader.part(end).unwrap_or(reader.rest())
 }
 
 // The faulty field, or the line without its byte 10 where no field is to blame, from the sheet that the fault names; an
@@ -30,15 +27,16 @@ fn numbered_part(bytes: &[u8], end: u8, number: usize) -> &[u8]
 pub fn spot<'a>(fault: LoadFault, households: &'a [u8], links: &'a [u8]) -> &'a [u8]
     ensures { result.now ≡ spot_of fault households.now links.now }
 {
-    let sheet = match fault.sheet() {
-        1 => households,
-        2 => links,
-        _ => return &[],
+    let Some(place) = fault.place() else {
+        return &[];
     };
-    let line = numbered_part(sheet, b'\n', fault.line());
-    let field = fault.field();
-    if field == 0 {
-        return line;
+    let sheet = match place.sheet {
+        Sheet::Households => households,
+        Sheet::Links => links,
+    };
+    let line = numbered_part(sheet, b'\n', place.line);
+    match fault.field() {
+        0 => line,
+        field => numbered_part(line, b',', field),
     }
-    numbered_part(line, b',', field)
 }

@@ -22,4 +22,8 @@ mod order;
 #[cfg(test)]
 mod rooms;
 #[cfg(test)]
+mod runner;
+#[cfg(test)]
 mod spots;
+#[cfg(test)]
+mod written;

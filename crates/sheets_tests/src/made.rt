@@ -5,42 +5,38 @@ use parish::Refusal;
 // The four numbers of a text, 0 for what is none.
 pub(super) fn numbers_of(told: &str) -> [usize; 4] {
     let mut numbers = [0; 4];
-    let mut count: usize = 0;
-    for part in told.split(',') {
-        if count < 4 {
-            numbers[count] = part.parse::<usize>().unwrap_or(0);
-        }
-        count = count.wrapping_add(1);
+    for (number, part) in numbers.iter_mut().zip(told.split(',')) {
+        *number = part.parse().unwrap_or(0);
     }
     numbers
 }
 
-pub(super) fn made_fault(kind: &str, numbers: [usize; 4]) -> Option<LoadFault> {
-    let refusal = refusal_of(numbers[0]);
-    let sheet = if numbers[1] == 1 {
+pub(super) fn made_fault(
+    kind: &str,
+    [number, sheet, line, field]: [usize; 4],
+) -> Option<LoadFault> {
+    let refusal = refusal_of(number);
+    let sheet = if sheet == 1 {
         Sheet::Households
     } else {
         Sheet::Links
     };
-    let place = Place {
-        sheet,
-        line: numbers[2],
-    };
-    let field = numbers[3];
+    let place = Place { sheet, line };
     match kind {
         "!call" => Some(LoadFault::Call(refusal)),
-        "!names" => Some(LoadFault::Line(LineFault::WrongNames(place))),
-        "!count" => Some(LoadFault::Line(LineFault::WrongCount(place))),
-        "!field" => Some(LoadFault::Line(LineFault::Field(FieldFault { place, field }))),
-        "!parish" => Some(LoadFault::Parish(ParishFault {
+        "!names" => Some(LineFault::WrongNames(place).into()),
+        "!count" => Some(LineFault::WrongCount(place).into()),
+        "!field" => Some(LineFault::from(FieldFault { place, field }).into()),
+        "!parish" => Some(LoadFault::from(ParishFault {
             place,
-            field,
+            field: (field > 0).then_some(field),
             refusal,
         })),
         _ => None,
     }
 }
 
+// By hand, since the numbers that are told of refusals are tested against these.
 fn refusal_of(number: usize) -> Refusal {
     match number {
         1 => Refusal::SearchOpen,

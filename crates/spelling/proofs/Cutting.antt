@@ -1,9 +1,9 @@
 -- Cutting bytes at a separator, and putting the pieces together again. Assumes nothing.
-use Rattle.std.proofs.Common.{◌≡◌, ℕ, ◌+◌, ◌-◌, ◌<◌, ◌≤◌, true, false, cond, eqb, List, [], ◌∷◌, ◌++◌, length, get_or, take, drop, sym, refl, ap, ◌∙◌, subst, arith, eq-eqb, ne_eqb, eqb-true}
-use borrow.Author.Tests.{eqb-false}
+use Rattle.std.proofs.Common.{◌≡◌, ◌≢◌, ℕ, ◌+◌, ◌-◌, ◌<◌, ◌≤◌, true, false, cond, ◌||◌, eqb, List, [], ◌∷◌, ◌++◌, length, get_or, take, drop, sym, refl, ap, ◌∙◌, subst, arith, eq-eqb, ne_eqb, eqb-true}
+use borrow.Author.Tests.{eqb-false, clash}
 use Rattle.std.proofs.ByRecursion.{All-from_get_or}
 use Rattle.std.proofs.lemmas.List.{drop-drop, drop_more, get_or_past, get_or-take, length-drop, length-take-le, take-append-drop}
-use Rattle.std.specs.List.{AllByRecursion}
+use Rattle.std.specs.List.{AllByRecursion, AllWithin, HoldsAt, list_any}
 use Rattle.spelling.specs.Pieces.{onto, pieces, glued, Lacks, PiecesAreTheCut, numbered}
 
 -- there is always a first piece
@@ -72,6 +72,27 @@ pieces_whole b [] l = refl
 pieces_whole b (x ∷ p) l =
     ap (λ t. cond t ([] ∷ pieces b p) (onto x (pieces b p))) (ne_eqb x b l.0) ∙ ap (onto x) (pieces_whole b p l.1)
 
+-- a text with one is more
+onto_long : (x : ℕ) (ps : List (List ℕ)) → 0 < length ps → length (onto x ps) ≡ length ps
+onto_long x [] some = absurd (let z : ⊥ = omega arith in z)
+onto_long x (p ∷ ps) some = refl
+
+pub pieces_more : (b : ℕ) (s : List ℕ) → list_any (λ x. eqb x b) s ≡ true → 1 < length (pieces b s)
+pieces_more b [] e = absurd (clash e)
+pieces_more b (x ∷ xs) e =
+    elim (eqb x b) as (λ t. (t || list_any (λ y. eqb y b) xs) ≡ true → 1 < length (cond t ([] ∷ pieces b xs) (onto x (pieces b xs)))) [
+      | true ↦ λ _. let some = pieces_some b xs in omega arith
+      | false ↦ λ f. let more = pieces_more b xs f in omega (arith, onto_long x (pieces b xs) (pieces_some b xs))
+    ] e
+
+pub pieces_one : (b : ℕ) (s : List ℕ) → list_any (λ x. eqb x b) s ≡ false → pieces b s ≡ s ∷ []
+pieces_one b [] e = refl
+pieces_one b (x ∷ xs) e =
+    elim (eqb x b) as (λ t. (t || list_any (λ y. eqb y b) xs) ≡ false → cond t ([] ∷ pieces b xs) (onto x (pieces b xs)) ≡ (x ∷ xs) ∷ []) [
+      | true ↦ λ f. absurd (clash (sym f))
+      | false ↦ λ f. ap (onto x) (pieces_one b xs f)
+    ] e
+
 pub pieces_glued : (b : ℕ) (ps : List (List ℕ)) → 0 < length ps → AllByRecursion (Lacks b) ps → pieces b (glued b ps) ≡ ps
 pieces_glued b [] h all = absurd (let z : ⊥ = omega arith in z)
 pieces_glued b (p ∷ []) h all = pieces_whole b p all.0
@@ -85,46 +106,32 @@ pieces_are_the_cut b s = (
 )
 
 -- by places: the first separator stands at n
-lacks_front : (b n : ℕ) (s : List ℕ) → n ≤ length s → ((k : ℕ) → k < n → get_or s k 0 ≡ b → ⊥) → Lacks b (take n s)
+lacks_front : (b n : ℕ) (s : List ℕ) → n ≤ length s → AllWithin (λ x. x ≢ b) s 0 n → Lacks b (take n s)
 lacks_front b n s le ne =
-    let len : length (take n s) ≡ n = length-take-le n s le in
-    All-from_get_or (λ x. x ≡ b → ⊥) (take n s) 0
-    (λ k lt e. let below : k < n = omega arith in ne k below (sym (get_or-take n s k 0 below) ∙ e))
+    let len = length-take-le n s le in
+    All-from_get_or (λ x. x ≢ b) (take n s) 0 (λ k lt e. let below : k < n = omega arith in ne k 0 (omega arith) below (sym (get_or-take n s k 0 below) ∙ e))
 
-pub pieces_found : (b n : ℕ) (s : List ℕ) → n < length s → ((k : ℕ) → k < n → get_or s k 0 ≡ b → ⊥) → get_or s n 0 ≡ b
-    → pieces b s ≡ take n s ∷ pieces b (drop (n + 1) s)
-pieces_found b n s lt ne here =
+pieces_found : (b n : ℕ) (s : List ℕ) → n < length s → HoldsAt (λ x. x ≡ b) s n → AllWithin (λ x. x ≢ b) s 0 n → pieces b s ≡ take n s ∷ pieces b (drop (n + 1) s)
+pieces_found b n s lt here ne =
     let whole : s ≡ take n s ++ (b ∷ drop (n + 1) s) =
-    sym (take-append-drop n s) ∙ ap (λ xs. take n s ++ xs) (drop_more s n 0 lt ∙ ap (λ x. x ∷ drop (n + 1) s) here) in
+    sym (take-append-drop n s) ∙ ap (λ xs. take n s ++ xs) (drop_more s n 0 lt ∙ ap (λ x. x ∷ drop (n + 1) s) (here 0)) in
     ap (pieces b) whole ∙ pieces_at b (take n s) (drop (n + 1) s) (lacks_front b n s (omega arith) ne)
 
-pub pieces_none : (b : ℕ) (s : List ℕ) → ((k : ℕ) → k < length s → get_or s k 0 ≡ b → ⊥) → pieces b s ≡ s ∷ []
-pieces_none b s ne = pieces_whole b s (All-from_get_or (λ x. x ≡ b → ⊥) s 0 ne)
-
--- a reader at `place` that found the separator n bytes on
-pub part_found : (b n place : ℕ) (bytes rest : List ℕ) → rest ≡ drop place bytes → n < length rest
-    → ((k : ℕ) → k < n → get_or rest k 0 ≡ b → ⊥) → get_or rest n 0 ≡ b
-    → (pieces b (drop place bytes) ≡ take n rest ∷ pieces b (drop (place + (n + 1)) bytes))
-    × (length (drop (place + (n + 1)) bytes) < length (drop place bytes))
+-- a reader of `bytes` that found the separator n bytes on in what is unread
+pub part_found : (b n place : ℕ) (bytes unread rest : List ℕ) → drop place bytes ≡ unread → rest ≡ unread
+    → (n < length rest) × HoldsAt (λ x. x ≡ b) rest n × AllWithin (λ x. x ≢ b) rest 0 n
+    → (pieces b unread ≡ take n rest ∷ pieces b (drop (place + (n + 1)) bytes))
+    × (length (drop (place + (n + 1)) bytes) < length unread)
     × (place + (n + 1) ≤ length bytes)
-part_found b n place bytes rest e lt ne here =
-    let on : drop (n + 1) rest ≡ drop (place + (n + 1)) bytes = ap (drop (n + 1)) e ∙ drop-drop (n + 1) place bytes in
-    let long : length rest ≡ length bytes - place = ap length e ∙ length-drop place bytes in
+part_found b n place bytes unread rest view e first =
+    let on : drop (n + 1) rest ≡ drop (place + (n + 1)) bytes = ap (drop (n + 1)) (e ∙ sym view) ∙ drop-drop (n + 1) place bytes in
+    let long : length rest ≡ length bytes - place = ap length (e ∙ sym view) ∙ length-drop place bytes in
     let less = length-drop (n + 1) rest in
     let same = ap length on in
     let whole = ap length e in
-    (ap (pieces b) (sym e) ∙ pieces_found b n rest lt ne here ∙ ap (λ s. take n rest ∷ pieces b s) on, omega arith, omega arith)
+    (ap (pieces b) (sym e) ∙ pieces_found b n rest first.0 first.1 first.2 ∙ ap (λ s. take n rest ∷ pieces b s) on, omega arith, omega arith)
 
 -- and one that found none
-pub part_none : (b n place : ℕ) (bytes rest : List ℕ) → rest ≡ drop place bytes → n ≡ length rest
-    → ((k : ℕ) → k < n → get_or rest k 0 ≡ b → ⊥) → pieces b (drop place bytes) ≡ drop place bytes ∷ []
-part_none b n place bytes rest e all ne =
-    subst (λ s. pieces b s ≡ s ∷ []) e (pieces_none b rest (λ k lt. ne k (omega arith)))
-
--- a new reader has everything unread
-pub unread_all : (place : ℕ) (bytes sheet : List ℕ) → place ≡ 0 → bytes ≡ sheet → drop place bytes ≡ sheet
-unread_all place bytes sheet p e = ap (λ n. drop n bytes) p ∙ e
-
--- past the last piece there is nothing
-pub numbered_past : (b k : ℕ) (s : List ℕ) → pieces b s ≡ s ∷ [] → 2 ≤ k → numbered k (pieces b s) ≡ []
-numbered_past b k s e le = ap (numbered k) e ∙ get_or_past ([] ∷ (s ∷ [])) k [] le
+pub part_none : (b : ℕ) (unread rest : List ℕ) → rest ≡ unread → AllWithin (λ x. x ≢ b) rest 0 (length rest) → pieces b unread ≡ unread ∷ []
+part_none b unread rest e ne =
+    subst (λ s. pieces b s ≡ s ∷ []) e (pieces_whole b rest (All-from_get_or (λ x. x ≢ b) rest 0 (λ k lt. ne k 0 (omega arith) lt)))

@@ -6,10 +6,14 @@ use Rattle.std.proofs.lemmas.Fmt.{decimal_digit, decimal_nonempty, decimal-digit
 use Rattle.std.proofs.ByRecursion.{All-from_get_or}
 use Rattle.std.proofs.lemmas.List.{at_drop_more, nil_from_length}
 use Rattle.std.proofs.lemmas.Str.Parse.{IsNumeralModel, not_in_digits, numerals_by_fold, digits_value_short}
+use Rattle.std.proofs.lemmas.Option.{none-some, cond_some}
 use Rattle.std.proofs.lemmas.Slice.{first_rest}
+use Rattle.std.proofs.lemmas.Slice.Eq.{slice_eq-Decides}
 use Rattle.std.proofs.lemmas.Bool.{and_parts, and_from, cases_eq}
-use Rattle.std.proofs.lemmas.Bool.Decides.{nat_tests}
+use Rattle.std.proofs.lemmas.Bool.Decides.{nat_tests, Decides-eqb}
+use Rattle.std.proofs.lemmas.Grind.{common_steps}
 use Rattle.std.specs.Str.{all_ascii_digits}
+use lib.Pointwise.{pointwise}
 use Rattle.std.specs.Int.{IsInRange}
 use Rattle.std.specs.Char.{is_ascii_digit}
 use Rattle.parish.specs.declared.items.Lot.{Lot}
@@ -25,9 +29,6 @@ digits_value ds = digits_after 0 ds
 own : IsNumeralModel (λ ds. all_ascii_digits ds ≡ true) digits_value
 own = numerals_by_fold _ (search rules) digits_after (search rules)
 
-nothing : {X : Type 0} (x : X) → ◌≡◌ {A = Option X} None (Some x) → ⊥
-nothing x e = let z : ◌≡◌ {A = ℕ} 0 1 = cc in omega arith
-
 -- ---- numbers
 -- 1 to 7 digits, the first of them no 0 unless it stands alone
 record Shaped (f : List ℕ) : Type 0 where
@@ -39,15 +40,8 @@ record Shaped (f : List ℕ) : Type 0 where
 first_value : (d : ℕ) (ds : List ℕ) → digits_value (d ∷ ds) ≡ digits_after (d - 48) ds
 first_value d ds = ap (λ n. digits_after n ds) (zero-add (d - 48))
 
-read_some : (n v : ℕ) (ds : List ℕ) → read_on n ds ≡ Some v → (all_ascii_digits ds ≡ true) × (digits_after n ds ≡ v)
-read_some n v ds e =
-    elim (all_ascii_digits ds) as (λ t. all_ascii_digits ds ≡ t → cond t (Some (digits_after n ds)) None ≡ Some v → (all_ascii_digits ds ≡ true) × (digits_after n ds ≡ v)) [
-      | true ↦ λ t g. (t, let z : digits_after n ds ≡ v = cc in z)
-      | false ↦ λ t g. absurd (nothing v g)
-    ] refl e
-
 shaped : (f : List ℕ) (v : ℕ) → number_of f ≡ Some v → Shaped f × (digits_value f ≡ v)
-shaped [] v e = absurd (nothing v e)
+shaped [] v e = absurd (none-some v e)
 shaped (d ∷ ds) v e =
     elim (eqb d 48) as (λ t. eqb d 48 ≡ t
     → cond t (lone_zero ds) (cond (leb 49 d && leb d 57 && leb (length ds) 6) (read_on (d - 48) ds) None) ≡ Some v → Shaped (d ∷ ds) × (digits_value (d ∷ ds) ≡ v)) [
@@ -56,7 +50,7 @@ shaped (d ∷ ds) v e =
           elim (leb 49 d && leb d 57 && leb (length ds) 6) as (λ u. (leb 49 d && leb d 57 && leb (length ds) 6) ≡ u
           → cond u (read_on (d - 48) ds) None ≡ Some v → Shaped (d ∷ ds) × (digits_value (d ∷ ds) ≡ v)) [
             | true ↦ λ u h.
-                let r = read_some (d - 48) v ds h in
+                let r = cond_some (all_ascii_digits ds) (digits_after (d - 48) ds) v h in
                 let all = r.0 in (
                   record {
                     digits = grind (arith, nat_tests);
@@ -66,7 +60,7 @@ shaped (d ∷ ds) v e =
                   },
                   first_value d ds ∙ r.1,
                 )
-            | false ↦ λ u h. absurd (nothing v h)
+            | false ↦ λ u h. absurd (none-some v h)
           ] refl g
     ] refl e
   where
@@ -76,7 +70,7 @@ shaped (d ∷ ds) v e =
           record { digits = ap (λ x. all_ascii_digits (x ∷ [])) z; some = omega arith; short = omega arith; lone = λ _. refl },
           ap (λ x. digits_value (x ∷ [])) z ∙ at,
         )
-    shaped_zero d (c ∷ cs) v z g = absurd (nothing v g)
+    shaped_zero d (c ∷ cs) v z g = absurd (none-some v g)
 
 digit_low : (d : ℕ) → is_ascii_digit d ≡ true → 48 ≤ d
 digit_low d e = grind (arith, nat_tests)
@@ -110,10 +104,6 @@ number_from (d ∷ ds) s =
     number_at d ds all.1 (digit_low d all.0) (digit_high d all.0) (omega (arith, s.short)) s.lone
     ∙ ap Some (sym (first_value d ds))
 
-zero_or : (n : ℕ) → (n ≡ 0) ⊎ (0 < n)
-zero_or zero = inl refl
-zero_or (suc n) = inr (omega arith)
-
 decimal_shaped : (n : ℕ) → n < 10 ^ 7 → Shaped (decimal n)
 decimal_shaped n lt =
     let small : n < 2 ^ 64 = omega arith in
@@ -123,8 +113,8 @@ decimal_shaped n lt =
       short = length-decimal-le 7 n (omega arith) lt small;
       lone = λ e. ⊎_elim
           (λ z. ap length (ap decimal z ∙ decimal_digit 0 (omega arith)))
-          (λ p. let f = first_decimal n p small in let z : ⊥ = omega arith in absurd z)
-          (zero_or n);
+          (λ ne. let f = first_decimal n (omega arith) small in let z : ⊥ = omega arith in absurd z)
+          (cases_eq n 0);
     }
 
 pub number_fields : NumberFields
@@ -147,47 +137,31 @@ number_plain f n e =
     let s = (shaped f n e).0 in
     (digits_lack f 44 s.digits (λ within. omega arith), digits_lack f 10 s.digits (λ within. omega arith))
 
+-- as slices are compared
+pub same_by_items : (xs ys : List ℕ) → same xs ys ≡ pointwise eqb xs ys
+same_by_items [] [] = refl
+same_by_items [] (y ∷ ys) = refl
+same_by_items (x ∷ xs) [] = refl
+same_by_items (x ∷ xs) (y ∷ ys) = ap (λ t. eqb x y && t) (same_by_items xs ys)
+
 -- two texts are the same just where the test says so
-pub same_true : (xs ys : List ℕ) → same xs ys ≡ true → xs ≡ ys
-same_true [] [] e = refl
-same_true [] (y ∷ ys) e = absurd (clash e)
-same_true (x ∷ xs) [] e = absurd (clash e)
-same_true (x ∷ xs) (y ∷ ys) e =
-    let both = and_parts (eqb x y) (same xs ys) e in
-    let head = eqb-true x y both.0 in
-    let rest = same_true xs ys both.1 in
-    cc
+pub same_decides : (xs ys : List ℕ) → Decides (same xs ys) (xs ≡ ys)
+same_decides xs ys = slice_eq-Decides Decides-eqb xs ys (same xs ys) (same_by_items xs ys)
 
 pub same_self : (xs : List ℕ) → same xs xs ≡ true
-same_self [] = refl
-same_self (x ∷ xs) = and_from (eqb x x) (same xs xs) (eq-eqb x x refl) (same_self xs)
-
-pub same_decides : (xs ys : List ℕ) → Decides (same xs ys) (xs ≡ ys)
-same_decides xs ys = (same_true xs ys, λ e. subst (λ zs. same xs zs ≡ true) e (same_self xs))
+same_self xs = (same_decides xs xs).1 refl
 
 pub differ : (xs ys : List ℕ) → (xs ≡ ys → ⊥) → same xs ys ≡ false
-differ xs ys ne = elim (same xs ys) as (λ t. same xs ys ≡ t → t ≡ false) [ true ↦ λ e. absurd (ne (same_true xs ys e)) | false ↦ λ e. refl ] refl
+differ xs ys ne = elim (same xs ys) as (λ t. same xs ys ≡ t → t ≡ false) [ true ↦ λ e. absurd (ne ((same_decides xs ys).0 e)) | false ↦ λ e. refl ] refl
 
 -- ---- pins
 pin_byte_writes : (b : ℕ) (p : Option Lot) → pin_byte b ≡ Some p → b ∷ [] ≡ pin_field p
-pin_byte_writes b p e =
-    elim (eqb b 65) as (λ t. eqb b 65 ≡ t → cond t (Some (Some A)) (cond (eqb b 66) (Some (Some B)) (cond (eqb b 45) (Some None) None)) ≡ Some p → b ∷ [] ≡ pin_field p) [
-      | true ↦ λ t g. let is : Some A ≡ p = cc in ap (λ x. x ∷ []) (eqb-true b 65 t) ∙ ap pin_field is
-      | false ↦ λ _ h.
-          elim (eqb b 66) as (λ t. eqb b 66 ≡ t → cond t (Some (Some B)) (cond (eqb b 45) (Some None) None) ≡ Some p → b ∷ [] ≡ pin_field p) [
-            | true ↦ λ t g. let is : Some B ≡ p = cc in ap (λ x. x ∷ []) (eqb-true b 66 t) ∙ ap pin_field is
-            | false ↦ λ _ i.
-                elim (eqb b 45) as (λ t. eqb b 45 ≡ t → cond t (Some None) None ≡ Some p → b ∷ [] ≡ pin_field p) [
-                  | true ↦ λ t g. let is : None ≡ p = cc in ap (λ x. x ∷ []) (eqb-true b 45 t) ∙ ap pin_field is
-                  | false ↦ λ t g. absurd (nothing p g)
-                ] refl i
-          ] refl h
-    ] refl e
+pin_byte_writes b p e = grind (arith, nat_tests, common_steps)
 
 pin_writes : (f : List ℕ) (p : Option Lot) → pin_of f ≡ Some p → f ≡ pin_field p
-pin_writes [] p e = absurd (nothing p e)
+pin_writes [] p e = absurd (none-some p e)
 pin_writes (b ∷ []) p e = pin_byte_writes b p e
-pin_writes (b ∷ (c ∷ cs)) p e = absurd (nothing p e)
+pin_writes (b ∷ (c ∷ cs)) p e = absurd (none-some p e)
 
 pub pin_of_field : (p : Option Lot) → pin_of (pin_field p) ≡ Some p
 pin_of_field None = refl

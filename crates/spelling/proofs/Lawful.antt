@@ -1,8 +1,11 @@
 -- Both kinds of sheet are lawful. Assumes nothing.
 use Rattle.std.proofs.Common.{◌≡◌, ℕ, ◌^◌, ◌<◌, ◌≤◌, Bool, true, false, cond, not, ◌&&◌, ◌||◌, eqb, ltb, leb, List, [], ◌∷◌, ◌++◌, map, length, get_or, is_some, Some, None, Err, codes, decimal, Option, unwrap_or, sym, refl, ap, ◌∙◌, subst, arith, Bor, ltb-false, le-ltb, ne_eqb, leb-false}
 use borrow.Author.Tests.{eqb-false, lt-leb, not-true, clash}
+use Rattle.std.proofs.lemmas.Bool.Decides.{nat_tests}
+use Rattle.std.proofs.lemmas.Grind.{common_steps}
 use Rattle.std.proofs.lemmas.List.{append_assoc, append-nil, get_or_at, length-append, length_push}
 use Rattle.std.proofs.lemmas.Bool.{and_parts, or_parts, or_from}
+use Rattle.std.proofs.lemmas.Option.{none-some}
 use Rattle.std.specs.Option.{option_map}
 use Rattle.parish.proofs.Kept.{weights_push, joined_push, joined_among_more}
 use Rattle.parish.specs.declared.items.Link.{Link}
@@ -18,16 +21,6 @@ use Rattle.spelling.specs.Lines.{accepted as accepted-by, first_unwanted, spelt,
 use Rattle.spelling.specs.Pieces.{Lacks, pieces}
 use Rattle.spelling.proofs.Digits.{number_fields, number_plain, pin_fields, pin_of_field, pin_plain}
 use Rattle.spelling.proofs.Reading.{LawfulKind, answer_err}
-
--- a test that passed, and those after it
-passed : {X : Type 0} (t : Bool) (o : Option X) (x : X) → cond t o (Some x) ≡ None → (t ≡ true) × (o ≡ None)
-passed true o x e = (refl, e)
-passed false o x e = absurd (let z : ◌≡◌ {A = ℕ} 0 1 = cc in let w : ⊥ = omega arith in w)
-
--- a row that does not apply, and those after it
-idle : {X : Type 0} (t : Bool) (x : X) (o : Option X) → cond t (Some x) o ≡ None → (t ≡ false) × (o ≡ None)
-idle true x o e = absurd (let z : ◌≡◌ {A = ℕ} 0 1 = cc in let w : ⊥ = omega arith in w)
-idle false x o e = (refl, e)
 
 some_value : {X : Type 0} (o : Option X) (d : X) → is_some o ≡ true → o ≡ Some (unwrap_or o d)
 some_value None d e = absurd (clash e)
@@ -61,10 +54,8 @@ household_forth : (fs : List (List ℕ)) → length fs ≡ 2 → first_unwanted 
 household_forth [] l e = absurd (let z : ⊥ = omega arith in z)
 household_forth (a ∷ []) l e = absurd (let z : ⊥ = omega arith in z)
 household_forth (a ∷ (b ∷ [])) l e =
-    let one = passed (is_some (number_of a)) (cond (is_some (pin_of b)) None (Some 2)) 1 e in
-    let two = passed (is_some (pin_of b)) None 2 one.1 in
-    let w = number_written a one.0 in
-    let p = pin_written b two.0 in
+    let w = number_written a (grind (arith, common_steps)) in
+    let p = pin_written b (grind (arith, common_steps)) in
     cc
 household_forth (a ∷ (b ∷ (c ∷ fs))) l e = absurd (let z : ⊥ = omega arith in z)
 
@@ -73,19 +64,19 @@ households_lawful =
     record {
       forth = household_forth;
       back = λ m h sound e.
-          let light = idle (ltb 10000 h.weight) _ _ e in
-          let w = number_reads h.weight (omega (arith, ltb-false 10000 h.weight light.0)) in
+          let light : h.weight ≤ 10000 = grind (arith, nat_tests, common_steps) in
+          let w = number_reads h.weight (omega (arith, light)) in
           let p = pin_of_field h.pin in
           (refl, simp (w, p), simp (w, p), (number_plain (decimal h.weight) h.weight w, (pin_plain h.pin, tt)));
       named = lacking 10 (codes "weight,lot") refl;
       some = omega arith;
       keeps = λ m h sound e.
-          let light = idle (ltb 10000 h.weight) _ _ e in
-          let room = idle (leb 128 (length m.households)) _ _ light.1 in
+          let light : h.weight ≤ 10000 = grind (arith, nat_tests, common_steps) in
+          let room : length m.households < 128 = grind (arith, nat_tests, common_steps) in
           let long = length_push m.households h in
           record {
-            few = omega (arith, leb-false 128 (length m.households) room.0);
-            weights = weights_push m.households (m.households ++ (h ∷ [])) h refl sound.weights (ltb-false 10000 h.weight light.0);
+            few = omega (arith, room);
+            weights = weights_push m.households (m.households ++ (h ∷ [])) h refl sound.weights light;
             short = sound.short;
             joined = joined_among_more (length m.households) (length (m.households ++ (h ∷ []))) m.links (omega arith) sound.joined;
           };
@@ -104,12 +95,9 @@ link_forth [] l e = absurd (let z : ⊥ = omega arith in z)
 link_forth (a ∷ []) l e = absurd (let z : ⊥ = omega arith in z)
 link_forth (a ∷ (b ∷ [])) l e = absurd (let z : ⊥ = omega arith in z)
 link_forth (a ∷ (b ∷ (c ∷ []))) l e =
-    let one = passed (is_some (number_of a)) (cond (is_some (number_of b)) (cond (is_some (number_of c)) None (Some 3)) (Some 2)) 1 e in
-    let two = passed (is_some (number_of b)) (cond (is_some (number_of c)) None (Some 3)) 2 one.1 in
-    let three = passed (is_some (number_of c)) None 3 two.1 in
-    let from = number_written a one.0 in
-    let to = number_written b two.0 in
-    let strength = number_written c three.0 in
+    let from = number_written a (grind (arith, common_steps)) in
+    let to = number_written b (grind (arith, common_steps)) in
+    let strength = number_written c (grind (arith, common_steps)) in
     cc
 link_forth (a ∷ (b ∷ (c ∷ (d ∷ fs)))) l e = absurd (let z : ⊥ = omega arith in z)
 
@@ -120,22 +108,15 @@ record Accepted (m : Model) (l : Link) : Type 0 where
 
 accepted : (m : Model) (l : Link) → links_kind.refusal m l ≡ None → Accepted m l
 accepted m l e =
-    let n = length m.households in
-    let strong = idle (ltb l.strength 1 || ltb 1000 l.strength) _ _ e in
-    let there = idle (leb n l.from || leb n l.to) _ _ strong.1 in
-    let apart = idle (eqb l.from l.to) _ _ there.1 in
-    let full = idle (leb 1024 (length m.links)) _ _ apart.1 in
-    let s = or_parts (ltb l.strength 1) (ltb 1000 l.strength) strong.0 in
-    let t = or_parts (leb n l.from) (leb n l.to) there.0 in
     record {
       joins = (
-        leb-false n l.from t.0,
-        leb-false n l.to t.1,
-        eqb-false l.from l.to apart.0,
-        ltb-false l.strength 1 s.0,
-        ltb-false 1000 l.strength s.1,
+        grind (arith, nat_tests, common_steps),
+        grind (arith, nat_tests, common_steps),
+        grind (arith, nat_tests, common_steps),
+        grind (arith, nat_tests, common_steps),
+        grind (arith, nat_tests, common_steps),
       );
-      room = leb-false 1024 (length m.links) full.0;
+      room = grind (arith, nat_tests, common_steps);
     }
 
 -- and one that joins two households is accepted where there is room
@@ -193,55 +174,17 @@ links_lawful =
 
 -- ---- field by field
 household_by_fields : (p : Place) (a b : List ℕ) → household_by p a b ≡ spelt_by households_kind p (a ∷ (b ∷ []))
-household_by_fields p a b =
-    elim (number_of a) as (λ o. number_of a ≡ o → household_by p a b ≡ spelt_by households_kind p (a ∷ (b ∷ []))) [
-      | None ↦ λ x. simp x
-      | Some w ↦ λ x.
-          elim (pin_of b) as (λ o. pin_of b ≡ o → household_by p a b ≡ spelt_by households_kind p (a ∷ (b ∷ []))) [ None ↦ λ y. simp (x, y) | Some q ↦ λ y. simp (x, y) ] refl
-    ] refl
+household_by_fields p a b = grind (arith, common_steps)
 
 link_by_fields : (p : Place) (a b c : List ℕ) → link_by p a b c ≡ spelt_by links_kind p (a ∷ (b ∷ (c ∷ [])))
-link_by_fields p a b c =
-    elim (number_of a) as (λ o. number_of a ≡ o → link_by p a b c ≡ spelt_by links_kind p (a ∷ (b ∷ (c ∷ [])))) [
-      | None ↦ λ x. simp x
-      | Some from ↦ λ x.
-          elim (number_of b) as (λ o. number_of b ≡ o → link_by p a b c ≡ spelt_by links_kind p (a ∷ (b ∷ (c ∷ [])))) [
-            | None ↦ λ y. simp (x, y)
-            | Some to ↦ λ y.
-                elim (number_of c) as (λ o. number_of c ≡ o → link_by p a b c ≡ spelt_by links_kind p (a ∷ (b ∷ (c ∷ [])))) [ None ↦ λ z. simp (x, y, z) | Some strength ↦ λ z. simp (x, y, z) ] refl
-          ] refl
-    ] refl
+link_by_fields p a b c = grind (arith, common_steps)
 
--- the fields that a line was cut into
-pub household_spelt : (p : Place) (line : List ℕ) (fs : List (Bor (List ℕ))) (d : Bor (List ℕ)) → length fs ≡ 2 → map (λ x. x.now) fs ≡ pieces 44 line
-    → household_by p (get_or fs 0 d).now (get_or fs 1 d).now ≡ spelt households_kind p line
-household_spelt p line fs d two e =
-    household_by_fields p (get_or fs 0 d).now (get_or fs 1 d).now ∙ ap (spelt_by households_kind p) (sym (listed fs two) ∙ e)
-  where
-    listed : (gs : List (Bor (List ℕ))) → length gs ≡ 2 → map (λ x. x.now) gs ≡ (get_or gs 0 d).now ∷ ((get_or gs 1 d).now ∷ [])
-    listed [] l = absurd (let z : ⊥ = omega arith in z)
-    listed (x ∷ []) l = absurd (let z : ⊥ = omega arith in z)
-    listed (x ∷ (y ∷ [])) l = refl
-    listed (x ∷ (y ∷ (z ∷ gs))) l = absurd (let w : ⊥ = omega arith in w)
+-- the fields that a line was cut into, one after another
+pub household_spelt : (p : Place) (line a b rest : List ℕ) → pieces 44 line ≡ a ∷ pieces 44 rest → pieces 44 rest ≡ b ∷ []
+    → household_by p a b ≡ spelt households_kind p line
+household_spelt p line a b rest one two = household_by_fields p a b ∙ ap (spelt_by households_kind p) (sym (one ∙ ap (λ fs. a ∷ fs) two))
 
-pub link_spelt : (p : Place) (line : List ℕ) (fs : List (Bor (List ℕ))) (d : Bor (List ℕ)) → length fs ≡ 3 → map (λ x. x.now) fs ≡ pieces 44 line
-    → link_by p (get_or fs 0 d).now (get_or fs 1 d).now (get_or fs 2 d).now ≡ spelt links_kind p line
-link_spelt p line fs d three e =
-    link_by_fields p (get_or fs 0 d).now (get_or fs 1 d).now (get_or fs 2 d).now ∙ ap (spelt_by links_kind p) (sym (listed fs three) ∙ e)
-  where
-    listed : (gs : List (Bor (List ℕ))) → length gs ≡ 3 → map (λ x. x.now) gs ≡ (get_or gs 0 d).now ∷ ((get_or gs 1 d).now ∷ ((get_or gs 2 d).now ∷ []))
-    listed [] l = absurd (let z : ⊥ = omega arith in z)
-    listed (x ∷ []) l = absurd (let z : ⊥ = omega arith in z)
-    listed (x ∷ (y ∷ [])) l = absurd (let w : ⊥ = omega arith in w)
-    listed (x ∷ (y ∷ (z ∷ []))) l = refl
-    listed (x ∷ (y ∷ (z ∷ (u ∷ gs)))) l = absurd (let w : ⊥ = omega arith in w)
-
--- a link that is refused
-pub link_refused : (p : Place) (m m' changed : Model) (l : Link) (n k : ℕ) (e : Refusal) → Edited (link_table m l) n m changed m' (Err e)
-    → k ≡ blamed_in_link (length m.households) l e → (accepted-by links_kind p m l ≡ Err (record { place = p; field = k; refusal = e })) × (m' ≡ m)
-link_refused p m m' changed l n k e edited blamed =
-    let why = answer_err (first_applying (link_table m l)) n e (sym edited.answer) in (
-      ap (λ o. answer_by (option_map (λ d. record { place = p; field = blamed_in_link (length m.households) l d; refusal = d }) o) (links_kind.with_more m (l ∷ []))) why
-          ∙ ap (λ j. Err (record { place = p; field = j; refusal = e })) (sym blamed),
-      edited.leaves ∙ ap (λ o. left_by o m changed) why,
-    )
+pub link_spelt : (p : Place) (line a b c more rest : List ℕ) → pieces 44 line ≡ a ∷ pieces 44 more → pieces 44 more ≡ b ∷ pieces 44 rest
+    → pieces 44 rest ≡ c ∷ [] → link_by p a b c ≡ spelt links_kind p line
+link_spelt p line a b c more rest one two three =
+    link_by_fields p a b c ∙ ap (spelt_by links_kind p) (sym (one ∙ ap (λ fs. a ∷ fs) (two ∙ ap (λ fs. b ∷ fs) three)))

@@ -1,11 +1,15 @@
 -- Reading a sheet of any lawful kind: it succeeds just where the sheet spells records that the parish can take, and else
 -- gives the first fault. Assumes nothing.
-use Rattle.std.proofs.Common.{◌≡◌, ℕ, zero, suc, ◌+◌, ◌<◌, Bool, true, false, cond, eqb, ◌⊎◌, List, [], ◌∷◌, ◌++◌, length, get_or, Some, None, Ok, Err, Option, Result, sym, refl, ap, ◌∙◌, subst, inl, inr, ⊎_elim, arith, eq-eqb, ne_eqb, eqb-true}
+use Rattle.std.proofs.Common.{◌≡◌, ℕ, zero, suc, ◌+◌, ◌<◌, Bool, true, false, cond, eqb, ◌⊎◌, List, [], ◌∷◌, ◌++◌, length, get_or, Some, None, Ok, Err, Option, Result, Bor, sym, refl, ap, ◌∙◌, subst, inl, inr, ⊎_elim, arith, eq-eqb, ne_eqb, eqb-true}
 use borrow.Author.Tests.{eqb-false, clash}
 use Rattle.std.proofs.ByRecursion.{All-append}
 use Rattle.std.proofs.lemmas.List.{append_assoc, append-nil}
 use Rattle.std.proofs.lemmas.Bool.{cond-true, cond-false}
-use Rattle.std.specs.Option.{option_map}
+use Rattle.std.proofs.lemmas.Bool.Decides.{nat_tests}
+use Rattle.std.proofs.lemmas.Grind.{common_steps}
+use Rattle.std.proofs.lemmas.Option.{none-some}
+use Rattle.std.specs.Option.{option_map, option_eq}
+use lib.Pointwise.{pointwise}
 use Rattle.std.specs.List.{flat_map, AllByRecursion}
 use Rattle.parish.specs.declared.refusals.Refusal.{Refusal}
 use Rattle.parish.specs.Edits.{answer_by}
@@ -20,9 +24,9 @@ use Rattle.spelling.specs.Fields.{same}
 use Rattle.spelling.specs.Kinds.{Kind}
 use Rattle.spelling.specs.Laws.{line_of, sheet_of, never, Plain, Opens, LineFails, unended, miscounted, unwanted, refused, SheetFails, misnamed, bad_line}
 use Rattle.spelling.specs.Lines.{and_then, raised, first_unwanted, line_fault, place_of, spelt, spelt_by, accepted, line_read, lines_read, all_read, sheet_read}
-use Rattle.spelling.specs.Pieces.{pieces, glued, Lacks}
+use Rattle.spelling.specs.Pieces.{pieces, glued, Lacks, Parted}
 use Rattle.spelling.proofs.Cutting.{pieces_some, pieces_lack, pieces_free, pieces_at, pieces_glued, pieces_whole, glued_pieces}
-use Rattle.spelling.proofs.Digits.{same_true, same_self, same_decides, differ}
+use Rattle.spelling.proofs.Digits.{same_self, same_decides, same_by_items, differ}
 
 -- what a kind of sheet has to keep
 pub record LawfulKind {R : Type 0} (K : Kind R) : Type 0 where
@@ -70,10 +74,10 @@ answer_err (Some c) x d e = let z : c ≡ d = cc in ap Some z
 
 mapped_none : {X Y : Type 0} (f : X → Y) (o : Option X) → option_map f o ≡ None → o ≡ None
 mapped_none f None e = refl
-mapped_none f (Some x) e = absurd (let z : ◌≡◌ {A = ℕ} 0 1 = cc in let w : ⊥ = omega arith in w)
+mapped_none f (Some x) e = absurd (none-some _ (sym e))
 
 mapped_some : {X Y : Type 0} (f : X → Y) (o : Option X) (y : Y) → option_map f o ≡ Some y → (x : X) × (o ≡ Some x) × (y ≡ f x)
-mapped_some f None y e = absurd (let z : ◌≡◌ {A = ℕ} 0 1 = cc in let w : ⊥ = omega arith in w)
+mapped_some f None y e = absurd (none-some _ e)
 mapped_some f (Some x) y e = (x, refl, let z : y ≡ f x = cc in z)
 
 -- ---- the fields of a line
@@ -86,8 +90,8 @@ wanted_more w ws f fs k here all (suc j) lt = all j (omega arith)
 unwanted_first : (n : ℕ) (ws : List (List ℕ → Bool)) (fs : List (List ℕ)) (i : ℕ) → first_unwanted n ws fs ≡ Some i
     → (k : ℕ) × (i ≡ n + k) × (k < length fs) × ((j : ℕ) → j < k → get_or ws j never (get_or fs j []) ≡ true)
     × (get_or ws k never (get_or fs k []) ≡ true → ⊥)
-unwanted_first n [] fs i e = absurd (let z : ◌≡◌ {A = ℕ} 0 1 = cc in let w : ⊥ = omega arith in w)
-unwanted_first n (w ∷ ws) [] i e = absurd (let z : ◌≡◌ {A = ℕ} 0 1 = cc in let w : ⊥ = omega arith in w)
+unwanted_first n [] fs i e = absurd (none-some _ e)
+unwanted_first n (w ∷ ws) [] i e = absurd (none-some _ e)
 unwanted_first n (w ∷ ws) (f ∷ fs) i e =
     elim (w f) as (λ t. w f ≡ t → cond t (first_unwanted (n + 1) ws fs) (Some n) ≡ Some i
     → (k : ℕ) × (i ≡ n + k) × (k < length (f ∷ fs)) × ((j : ℕ) → j < k → get_or (w ∷ ws) j never (get_or (f ∷ fs) j []) ≡ true)
@@ -107,7 +111,7 @@ none_wanted n [] (f ∷ fs) l e j lt = absurd (let z : ⊥ = omega arith in z)
 none_wanted n (w ∷ ws) (f ∷ fs) l e j lt =
     elim (w f) as (λ t. w f ≡ t → cond t (first_unwanted (n + 1) ws fs) (Some n) ≡ None → get_or (w ∷ ws) j never (get_or (f ∷ fs) j []) ≡ true) [
       | true ↦ λ here more. wanted_more w ws f fs (length fs) here (none_wanted (n + 1) ws fs (omega arith) more) j lt
-      | false ↦ λ here more. absurd (let z : ◌≡◌ {A = ℕ} 0 1 = cc in let v : ⊥ = omega arith in v)
+      | false ↦ λ here more. absurd (none-some _ (sym more))
     ] refl e
 
 -- and where each is as wanted, no field is found
@@ -137,13 +141,7 @@ first_found n (w ∷ ws) (f ∷ fs) (suc k) l lt all bad =
 
 module _ (ws : List (List ℕ → Bool)) (p : Place) (fs : List (List ℕ)) where
   fault_none : line_fault ws p fs ≡ None → (length fs ≡ length ws) × (first_unwanted 1 ws fs ≡ None)
-  fault_none e =
-      elim (eqb (length fs) (length ws)) as (λ t. eqb (length fs) (length ws) ≡ t
-      → cond t (option_map (λ i. Field (record { place = p; field = i })) (first_unwanted 1 ws fs)) (Some (WrongCount p)) ≡ None
-      → (length fs ≡ length ws) × (first_unwanted 1 ws fs ≡ None)) [
-        | true ↦ λ t n. (eqb-true (length fs) (length ws) t, mapped_none (λ i. Field (record { place = p; field = i })) (first_unwanted 1 ws fs) n)
-        | false ↦ λ t n. absurd (let z : ◌≡◌ {A = ℕ} 0 1 = cc in let w : ⊥ = omega arith in w)
-      ] refl e
+  fault_none e = grind (arith, nat_tests, common_steps, mapped_none)
 
   none_fault : length fs ≡ length ws → first_unwanted 1 ws fs ≡ None → line_fault ws p fs ≡ None
   none_fault l n = simp (eq-eqb (length fs) (length ws) l, n)
@@ -224,13 +222,17 @@ module _ {R : Type 0} (K : Kind R) where
       → sheet_read K m sheet ≡ cond (same line K.names) (lines_read K 2 m (pieces 10 after)) (Err (Line (WrongNames (place_of K 1))))
   names_step m sheet after line cut = ap (all_read K m) cut ∙ all_step m line (pieces 10 after) (pieces_some 10 after)
 
-  pub names_wrong : (m : Model) (sheet after line : List ℕ) → pieces 10 sheet ≡ line ∷ pieces 10 after → (line ≡ K.names → ⊥)
-      → sheet_read K m sheet ≡ Err (Line (WrongNames (place_of K 1)))
-  names_wrong m sheet after line cut ne =
-      names_step m sheet after line cut
-      ∙ cond-false (same line K.names) (lines_read K 2 m (pieces 10 after)) (Err (Line (WrongNames (place_of K 1)))) (differ line K.names ne)
+  -- what is read, by the part up to the first byte 10
+  pub names_read : (m : Model) (sheet after : List ℕ) (o : Option (Bor (List ℕ))) (names : Bor (List ℕ)) → Parted 10 sheet after o → names.now ≡ K.names
+      → sheet_read K m sheet
+      ≡ cond (option_eq (λ x y. pointwise eqb x.now y.now) o (Some names)) (lines_read K 2 m (pieces 10 after)) (Err (Line (WrongNames (place_of K 1))))
+  names_read m sheet after None names p e = ap (all_read K m) p.0
+  names_read m sheet after (Some line) names p e =
+      names_step m sheet after line.now p.0
+      ∙ ap (λ t. cond t (lines_read K 2 m (pieces 10 after)) (Err (Line (WrongNames (place_of K 1)))))
+      (ap (same line.now) (sym e) ∙ same_by_items line.now names.now)
 
-  pub names_right : (m : Model) (sheet after line : List ℕ) → pieces 10 sheet ≡ line ∷ pieces 10 after → line ≡ K.names
+  names_right : (m : Model) (sheet after line : List ℕ) → pieces 10 sheet ≡ line ∷ pieces 10 after → line ≡ K.names
       → sheet_read K m sheet ≡ lines_read K 2 m (pieces 10 after)
   names_right m sheet after line cut e =
       names_step m sheet after line cut
@@ -419,7 +421,7 @@ module _ {R : Type 0} (K : Kind R) (lawful : LawfulKind K) where
         | true ↦ λ t g.
             let rest = lines_ok 2 m m' (q ∷ ps) sound (omega arith) g in (
               rest.0,
-              names_on p rest.0 (glued 10 (q ∷ ps)) [] (same_true p K.names t) (rest.1 ∙ sym (append-nil (lines_of rest.0)))
+              names_on p rest.0 (glued 10 (q ∷ ps)) [] ((same_decides p K.names).0 t) (rest.1 ∙ sym (append-nil (lines_of rest.0)))
                   ∙ append-nil (sheet_of K rest.0),
               rest.2,
               rest.3,
@@ -450,7 +452,7 @@ module _ {R : Type 0} (K : Kind R) (lawful : LawfulKind K) where
             let bad = lines_err 2 m (q ∷ ps) f sound (omega arith) free.1 g in
             let at = bad.4 in
             bad_line bad.0 bad.1 f
-            (names_on p bad.0 (glued 10 (q ∷ ps)) bad.1 (same_true p K.names t) bad.2)
+            (names_on p bad.0 (glued 10 (q ∷ ps)) bad.1 ((same_decides p K.names).0 t) bad.2)
             bad.3
             (subst (λ k. LineFails K (K.with_more m bad.0) (place_of K k) bad.1 f) at.1 at.2)
         | false ↦ λ t g.

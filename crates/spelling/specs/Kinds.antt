@@ -1,5 +1,5 @@
 -- The two kinds of sheet: names line, fields, record, and what a parish refuses of it. Assumes nothing.
-use Rattle.std.specs.Prelude.{ℕ, Bool, cond, List, [], ◌∷◌, ◌++◌, length, is_some, None, codes, decimal, Option, nat_lt, slice_index_or}
+use Rattle.std.specs.Prelude.{ℕ, Bool, cond, List, [], ◌∷◌, ◌++◌, length, is_some, Some, None, codes, decimal, Option, nat_lt, slice_index_or}
 use Rattle.parish.specs.declared.items.Household.{Household}
 use Rattle.parish.specs.declared.items.Link.{Link}
 use Rattle.parish.specs.declared.refusals.Refusal.{Refusal}
@@ -30,25 +30,25 @@ pub record Kind (R : Type 0) : Type 0 where
   pub value : List (List ℕ) → R
   -- the fields that write a record
   pub fields : R → List (List ℕ)
-  -- why a parish refuses one record more, if it does, and the field to blame
+  -- why a parish refuses one record more, if it does, and the field to blame, if one is
   pub refusal : Model → R → Option Refusal
-  pub blamed : Model → R → Refusal → ℕ
+  pub blamed : Model → R → Refusal → Option ℕ
   -- a parish with more records at the end
   pub with_more : Model → List R → Model
 
 -- the weight is field 1; where the parish is full no field is to blame
-abbrev pub blamed_in_household : Refusal → ℕ
-blamed_in_household SearchOpen = 0
-blamed_in_household NoSearch = 0
-blamed_in_household WrongList = 0
-blamed_in_household AllowanceSpent = 0
-blamed_in_household OutsideLimits = 1
-blamed_in_household NoHousehold = 0
-blamed_in_household SelfLink = 0
-blamed_in_household ParishFull = 0
-blamed_in_household WrongNames = 0
-blamed_in_household WrongCount = 0
-blamed_in_household WrongField = 0
+abbrev pub blamed_in_household : Refusal → Option ℕ
+blamed_in_household SearchOpen = None
+blamed_in_household NoSearch = None
+blamed_in_household WrongList = None
+blamed_in_household AllowanceSpent = None
+blamed_in_household OutsideLimits = Some 1
+blamed_in_household NoHousehold = None
+blamed_in_household SelfLink = None
+blamed_in_household ParishFull = None
+blamed_in_household WrongNames = None
+blamed_in_household WrongCount = None
+blamed_in_household WrongField = None
 
 -- the households sheet
 abbrev pub households_kind : Kind Household
@@ -65,18 +65,18 @@ households_kind =
     }
 
 -- among so many households: the strength is field 3, an end that is none of them the leftmost such, a link to itself field 2
-abbrev pub blamed_in_link : ℕ → Link → Refusal → ℕ
-blamed_in_link households l SearchOpen = 0
-blamed_in_link households l NoSearch = 0
-blamed_in_link households l WrongList = 0
-blamed_in_link households l AllowanceSpent = 0
-blamed_in_link households l OutsideLimits = 3
-blamed_in_link households l NoHousehold = cond (nat_lt l.from households) 2 1
-blamed_in_link households l SelfLink = 2
-blamed_in_link households l ParishFull = 0
-blamed_in_link households l WrongNames = 0
-blamed_in_link households l WrongCount = 0
-blamed_in_link households l WrongField = 0
+abbrev pub blamed_in_link : ℕ → Link → Refusal → Option ℕ
+blamed_in_link households l SearchOpen = None
+blamed_in_link households l NoSearch = None
+blamed_in_link households l WrongList = None
+blamed_in_link households l AllowanceSpent = None
+blamed_in_link households l OutsideLimits = Some 3
+blamed_in_link households l NoHousehold = Some (cond (nat_lt l.from households) 2 1)
+blamed_in_link households l SelfLink = Some 2
+blamed_in_link households l ParishFull = None
+blamed_in_link households l WrongNames = None
+blamed_in_link households l WrongCount = None
+blamed_in_link households l WrongField = None
 
 -- the links sheet
 abbrev pub links_kind : Kind Link

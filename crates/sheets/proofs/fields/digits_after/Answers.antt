@@ -16,7 +16,8 @@ overflow_add-number c = search (rules, power_bound c.loop-digit.number c.loop-di
 
 pub loop-digit-preserved : goal.loop-digit-preserved
 loop-digit-preserved c =
-    let digit = sym c.if-not-is_ascii_digit.ensures.value in (
+    let digit = sym c.if-not-is_ascii_digit.ensures.value in
+    rw c.from.ensures (
       sym (read_step c.loop-digit.number _ _ c.loop-digit-test.true digit) ∙ c.loop-digit.invariant.0,
       power_step c.loop-digit.number _ _ c.loop-digit.invariant.1 (digit_small _ digit),
     )

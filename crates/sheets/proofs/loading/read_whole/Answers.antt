@@ -11,4 +11,4 @@ returns-in_err-read_both c =
 pub returns : goal.returns
 returns c =
     load_good c.args.households.now c.args.links.now _ _ c.in_ok-read_both.ensures
-    (let h = ap length c.households-households.ensures in let l = ap length c.links-links.ensures in cc)
+    (let h = ap length c.households.ensures in let l = ap length c.links.ensures in cc)

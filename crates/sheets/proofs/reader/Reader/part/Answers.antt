@@ -1,22 +1,18 @@
-use Rattle.std.proofs.Common.{refl, arith}
-use native.Mathlib.Nat.{sub-zero}
+use Rattle.std.proofs.Common.{◌≡◌, ◌≢◌, Some, None, refl, rules, tests}
+use Rattle.std.proofs.lemmas.Iterator.{IsFirst-from_position, YieldsList-from_slice}
 use Rattle.spelling.proofs.Cutting.{part_found, part_none}
 use Rattle.sheets.proofs.reader.Reader.part.Goals as goal
 
-pub returns-then-n-rest : goal.returns-then-n-rest
-returns-then-n-rest c =
-    record {
-      bytes = refl;
-      parted =
-          (part_none _ _ c.args.self.now.place c.args.self.now.bytes.now _ c.rest-rest.ensures c.if-n-rest.true c.position-n.ensures.before, refl);
-    }
-
-pub invariant_of-self : goal.invariant_of-self
-invariant_of-self c =
-    let at = part_found _ _ c.args.self.now.place c.args.self.now.bytes.now _ c.rest-rest.ensures (omega arith) c.position-n.ensures.before (c.position-n.ensures.found (omega arith)) in
-    record { within = at.2 }
+pub returns-in_err-length : goal.returns-in_err-length
+returns-in_err-length c =
+    let none =
+    IsFirst-from_position _ _ None (λ x. x ≡ c.args.end) (λ x. x ≢ c.args.end) c.in_err-length.ensures.ran
+    (YieldsList-from_slice c.rest-rest.result.now cc) (λ x q k. search (rules, tests)) (λ x q k. search (rules, tests)) in
+    rw c.from_residual.ensures (part_none c.args.end _ _ c.rest-rest.ensures none, refl)
 
 pub returns : goal.returns
 returns c =
-    let at = part_found _ _ c.args.self.now.place c.args.self.now.bytes.now _ c.rest-rest.ensures (omega arith) c.position-n.ensures.before (c.position-n.ensures.found (omega arith)) in
-    record { bytes = refl; parted = (rw sub-zero at.0, at.1) }
+    let first =
+    IsFirst-from_position _ _ (Some c.in_ok-length.length) (λ x. x ≡ c.args.end) (λ x. x ≢ c.args.end) c.in_ok-length.ensures.ran
+    (YieldsList-from_slice c.rest-rest.result.now cc) (λ x q k. search (rules, tests)) (λ x q k. search (rules, tests)) in
+    let at = part_found c.args.end c.in_ok-length.length c.self.inside.place c.self.inside.bytes.now _ _ c.self.view_is c.rest-rest.ensures first in (at.0, at.1)
