@@ -1,1 +1,1 @@
-mod Edited
+mod Kept

@@ -9,28 +9,32 @@ ghost use Rattle.ask_bounds.specs.Parishes.{parish_of};
 
 use super::questions::Question;
 use super::stacks::consult;
-use anyhow::anyhow;
+use anyhow::Context;
 use parish::{Link, Parish, Refusal};
 use std::alloc::Global;
 use std::fmt;
 
+// A lower bound on the cost, and what each link is charged.
 #[derive(Drop)]
-pub(crate) enum Answer {
-    Bound(u32, Vec<u32>),
-    Refused(Refusal),
+struct Bound {
+    number: u32,
+    charges: Vec<u32>,
 }
+
+#[derive(Drop)]
+pub(crate) struct Answer(Result<Bound, Refusal>);
 
 impl fmt::Display for Answer {
     fn fmt<W: fmt::Write>(&self, f: &mut fmt::Formatter<W>) -> fmt::Result {
-        match self {
-            Answer::Refused(refusal) => write!(f, "refused {}", u32::from(*refusal)),
-            Answer::Bound(number, charges) => {
-                write!(f, "{number}:")?;
-                for charge in charges.as_slice() {
+        match &self.0 {
+            Ok(bound) => {
+                write!(f, "{}:", bound.number)?;
+                for charge in &bound.charges {
                     write!(f, " {charge}")?;
                 }
                 Ok(())
             }
+            Err(refusal) => write!(f, "refused {}", u32::from(*refusal)),
         }
     }
 }
@@ -41,28 +45,19 @@ pub(crate) fn ask(
     parish: &mut Parish,
     question: &Question<'_>,
 ) -> anyhow::Result<Answer> {
-    let filled = fill(
-        parish,
-        question.weights.as_slice(),
-        question.links.as_slice(),
-    );
-    if let Err(refusal) = filled {
-        return Ok(Answer::Refused(refusal));
+    if let Err(refusal) = fill(parish, &question.weights, &question.links) {
+        return Ok(Answer(Err(refusal)));
     }
     let mut charges = vec![in heap; 0; parish.links().len()]?;
-    let Some(told) = consult(
+    let told = consult(
         question.stack,
         parish,
         question.cap,
-        question.lots.as_slice(),
+        &question.lots,
         &mut charges,
-    ) else {
-        return Err(anyhow!("no stack of bounds has this name"));
-    };
-    Ok(match told {
-        Ok(number) => Answer::Bound(number, charges),
-        Err(refusal) => Answer::Refused(refusal),
-    })
+    )
+    .context("no stack of bounds has this name")?;
+    Ok(Answer(told.map(|number| Bound { number, charges })))
 }
 
 // Replaces what a parish holds.

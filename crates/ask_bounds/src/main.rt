@@ -9,7 +9,7 @@ mod answers;
 mod questions;
 mod stacks;
 
-fn run(rt: &HostRuntime) -> anyhow::Result<()> {
+fn main(rt: HostRuntime) -> anyhow::Result<()> {
     let heap = rt.alloc();
     let mut parish = Parish::new(heap)?;
     for line in BufReader::new(heap, rt.stdin())?.lines(heap) {
@@ -19,8 +19,4 @@ fn run(rt: &HostRuntime) -> anyhow::Result<()> {
         println!(rt; "{answer}")?;
     }
     Ok(())
-}
-
-fn main(rt: HostRuntime) -> anyhow::Result<()> {
-    run(&rt)
 }

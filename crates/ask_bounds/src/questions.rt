@@ -49,11 +49,9 @@ fn numbers_of(heap: Global, text: &str) -> anyhow::Result<Vec<u32>> {
 
 fn lots_of(heap: Global, text: &str) -> anyhow::Result<Vec<u8>> {
     let mut lots = Vec::new(heap);
-    for byte in text.bytes() {
-        if !byte.is_ascii_digit() {
-            return Err(anyhow!("a lot is not a digit"));
-        }
-        lots.push(byte - b'0')?;
+    for digit in text.chars() {
+        let lot = digit.to_digit(10).context("a lot is not a digit")?;
+        lots.push(lot as u8)?;
     }
     Ok(lots)
 }

@@ -17,30 +17,13 @@ pub(crate) fn consult(
 ) -> Option<Result<u32, Refusal>>
     ensures { IfSome result (λ told. Told (view parish.now) «cap» lots.now charges.old charges.new told) }
 {
-    match stack {
-        "bare" => Some(consult_bound(&Bare, parish, cap, lots, charges)),
-        "decided" => Some(consult_bound(&Decided, parish, cap, lots, charges)),
-        "flow bare" => Some(consult_bound(&Flow(Bare), parish, cap, lots, charges)),
-        "flow decided" => Some(consult_bound(&Flow(Decided), parish, cap, lots, charges)),
-        "flow flow decided" => Some(consult_bound(
-            &Flow(Flow(Decided)),
-            parish,
-            cap,
-            lots,
-            charges,
-        )),
-        _ => None,
-    }
-}
-
-fn consult_bound<B: LowerBound>(
-    bound: &B,
-    parish: &Parish,
-    cap: u32,
-    lots: &[u8],
-    charges: &mut [u32],
-) -> Result<u32, Refusal>
-    ensures { Told (view parish.now) «cap» lots.now charges.old charges.new result }
-{
-    bound.consult(parish, cap, lots, charges)
+    let bound: &dyn LowerBound = match stack {
+        "bare" => &Bare,
+        "decided" => &Decided,
+        "flow bare" => &Flow(Bare),
+        "flow decided" => &Flow(Decided),
+        "flow flow decided" => &Flow(Flow(Decided)),
+        _ => return None,
+    };
+    Some(bound.consult(parish, cap, lots, charges))
 }

@@ -1,5 +1,5 @@
 // Questions that are drawn, the same at every run.
-ghost use Rattle.std.specs.Prelude.{ℕ, ◌<◌, ◌≤◌, length, slice_index};
+ghost use Rattle.std.specs.Prelude.{◌<◌, ◌≤◌, All};
 
 use bisection::{IN_A, IN_B, UNSET};
 use parish::{MOST_STRENGTH, Parish, Refusal};
@@ -11,16 +11,16 @@ pub(crate) struct Size {
     pub(crate) households: usize,
     pub(crate) links: usize,
     pub(crate) share: usize,
+    ghost has_households: { 0 < households },
+    ghost has_share: { 0 < share },
 }
 
 impl fmt::Display for Size {
     fn fmt<W: fmt::Write>(&self, f: &mut fmt::Formatter<W>) -> fmt::Result {
-        let households = self.households;
-        let links = self.links;
-        let share = self.share;
         write!(
             f,
-            "{households} households, {links} links, one in {share} in each lot"
+            "{} households, {} links, one in {} in each lot",
+            self.households, self.links, self.share
         )
     }
 }
@@ -45,9 +45,7 @@ impl Drawn {
     }
 
     // Replaces what a parish holds. A link that would join a household to itself joins it to the next.
-    pub(crate) fn draw_parish(&mut self, parish: &mut Parish, size: Size) -> Result<(), Refusal>
-        requires { 0 < size.households }
-    {
+    pub(crate) fn draw_parish(&mut self, parish: &mut Parish, size: Size) -> Result<(), Refusal> {
         let households = size.households;
         parish.clear();
         for _ in 0..households {
@@ -69,16 +67,12 @@ impl Drawn {
 
     // Replaces each lot of a list.
     pub(crate) fn draw_lots(&mut self, lots: &mut [u8], size: Size)
-        requires { 0 < size.share }
-        ensures { (k : ℕ) → k < length lots.new → slice_index lots.new k ≤ 2 }
+        ensures { All (λ lot. lot ≤ 2) lots.new }
     {
-        for lot in lots.iter_mut() {
-            *lot = self.draw_lot(size);
-        }
+        lots.fill_with(|| self.draw_lot(size));
     }
 
     fn draw_lot(&mut self, size: Size) -> u8
-        requires { 0 < size.share }
         ensures { result ≤ 2 }
     {
         match self.below(size.share) {

@@ -16,38 +16,19 @@ mod timed;
 fn time_share(rt: &HostRuntime, share: usize) -> anyhow::Result<()>
     requires { 0 < share }
 {
-    let small = Size {
-        households: 32,
-        links: 60,
-        share,
-    };
-    let middle = Size {
-        households: 64,
-        links: 260,
-        share,
-    };
-    let large = Size {
-        households: 128,
-        links: 1022,
-        share,
-    };
-    time_size(rt, small)?;
-    time_size(rt, middle)?;
-    time_size(rt, large)
-}
-
-fn time_size(rt: &HostRuntime, size: Size) -> anyhow::Result<()>
-    requires { (0 < size.households) × (0 < size.share) }
-{
-    time_bound(rt, "flow over decided", &Flow(Decided), size)?;
-    time_bound(rt, "flow over bare", &Flow(Bare), size)
-}
-
-fn run(rt: &HostRuntime) -> anyhow::Result<()> {
-    time_share(rt, 4)?;
-    time_share(rt, 8)
+    for (households, links) in [(32, 60), (64, 260), (128, 1022)] {
+        let size = Size {
+            households,
+            links,
+            share,
+        };
+        time_bound(rt, "flow over decided", &Flow(Decided), size)?;
+        time_bound(rt, "flow over bare", &Flow(Bare), size)?;
+    }
+    Ok(())
 }
 
 fn main(rt: HostRuntime) -> anyhow::Result<()> {
-    run(&rt)
+    time_share(&rt, 4)?;
+    time_share(&rt, 8)
 }

@@ -1,30 +1,24 @@
 // Reading the front of a file.
-ghost use Rattle.std.specs.Prelude.{◌≤◌, length, IfOk};
+ghost use Rattle.std.specs.Prelude.{◌≤◌, IfOk};
+ghost use Rattle.std.specs.Vec.{vec_len};
 
-use std::io::{ErrorKind, Read};
+use std::alloc::Global;
+use std::io::{BufReader, ErrorKind, Read};
 use std::{fs, io};
 
-// Reads the first bytes of a file, as many as there is room for, and answers how many there were. A file that is missing
-// is empty.
-pub(crate) fn read_front(rt: &HostRuntime, name: &str, room: &mut [u8]) -> io::Result<usize>
-    ensures { IfOk result (λ n. n ≤ length room.old) }
+// A file is read up to this many bytes.
+const MOST_BYTES: usize = 65536;
+
+// The first bytes of a file. A file that is missing is empty.
+pub(crate) fn read_front(rt: &HostRuntime, heap: Global, name: &str) -> io::Result<Vec<u8>>
+    ensures { IfOk result (λ bytes. vec_len bytes ≤ MOST_BYTES) }
 {
-    let mut file = match fs::open(rt, name) {
-        Ok(file) => file,
-        Err(error) => {
-            if error.kind() == ErrorKind::NotFound {
-                return Ok(0);
-            }
-            return Err(error);
-        }
+    let file = match fs::open(rt, name) {
+        Err(error) if error.kind() == ErrorKind::NotFound => return Ok(Vec::new(heap)),
+        opened => opened?,
     };
-    let mut filled = 0;
-    while filled < room.len() {
-        let count = file.read(&mut room[filled..])?;
-        if count == 0 {
-            break;
-        }
-        filled += count;
-    }
-    Ok(filled)
+    BufReader::new(heap, file)?
+        .bytes()
+        .take(MOST_BYTES)
+        .try_collect(heap)
 }

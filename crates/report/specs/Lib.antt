@@ -1,4 +1,3 @@
-pub mod Bytes
 pub mod Texts
 pub mod Reports
 pub mod Parishes

@@ -1,5 +1,6 @@
 -- The exact bytes of each report. Assumes nothing.
-use Rattle.std.specs.Prelude.{ℕ, List, [], ◌∷◌, ◌++◌, codes, decimal}
+use Rattle.std.specs.Prelude.{ℕ, List, [], ◌∷◌, ◌++◌, map, codes, decimal}
+use Rattle.std.specs.List.{join_with_byte}
 use Rattle.parish.specs.Refusals.{refusal_number}
 use Rattle.faults.specs.declared.LoadFault.{LoadFault}
 use Rattle.faults.specs.Faults.{fault_refusal, fault_sheet, fault_line, fault_field}
@@ -7,9 +8,7 @@ use Rattle.report.specs.declared.reports.Summary.{Summary}
 
 -- numbers in decimal, with a comma, byte 44, between each two, and byte 10 at the end
 abbrev pub numbers_line : List ℕ → List ℕ
-numbers_line [] = 10 ∷ []
-numbers_line (n ∷ []) = decimal n ++ (10 ∷ [])
-numbers_line (n ∷ (m ∷ ns)) = decimal n ++ (44 ∷ numbers_line (m ∷ ns))
+numbers_line ns = join_with_byte 44 (map decimal ns) ++ (10 ∷ [])
 
 -- a line of names, and a line of as many numbers
 abbrev pub row_text : List ℕ → List ℕ → List ℕ

@@ -1,7 +1,6 @@
 // Reports as text, written into bytes that the caller lends.
 #![tactic(auto)]
 
-mod bytes;
 pub mod parishes;
 pub mod reports;
 mod rows;

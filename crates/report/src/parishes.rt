@@ -1,5 +1,5 @@
 // The report of two sheets.
-ghost use Rattle.std.specs.Prelude.{◌≡◌, Ok as Good};
+ghost use Rattle.std.specs.Prelude.{◌≡◌};
 ghost use Rattle.parish.specs.Model.{no_model};
 ghost use Rattle.parish.specs.View.{view};
 ghost use Rattle.spelling.specs.Loads.{loaded, load_leaves};
@@ -10,17 +10,18 @@ use super::reports::{Report, Summary};
 use parish::{Parish, Refusal};
 use sheets::read;
 
-// A parish in four numbers; nothing of it can be refused.
-fn summary(parish: &Parish) -> Result<Summary, Refusal>
-    ensures { result ≡ Good (summary_of (view parish.now)) }
-{
-    let cap = parish.weight_cap(0)?;
-    Ok(Summary {
-        households: parish.households().len(),
-        links: parish.links().len(),
-        weight: parish.total_weight(),
-        cap,
-    })
+// The cap is that at tolerance 0, which no parish refuses.
+impl From<&Parish> for Summary {
+    ghost from_gives = { λ parish summary. summary ≡ summary_of (view parish.now) };
+
+    fn from(parish: &Parish) -> Summary {
+        Summary {
+            households: parish.households().len(),
+            links: parish.links().len(),
+            weight: parish.total_weight(),
+            cap: parish.weight_cap(0).unwrap(),
+        }
+    }
 }
 
 // Reads a parish from two sheets, and writes a report of it, or of what is wrong with the sheets, at the front of `out`.
@@ -36,7 +37,7 @@ pub fn report_sheets(
     ensures scratch { view spare.new ≡ no_model }
 {
     match read(parish, spare, households, links) {
-        Ok(_) => summary(parish)?.report(out),
+        Ok(_) => Summary::from(&*parish).report(out),
         Err(fault) => fault.report(out),
     }
 }

@@ -31,7 +31,7 @@ impl Report for Summary {
     fn report(&self, out: &mut [u8]) -> Result<usize, Refusal> {
         write_row(
             out,
-            b"households,links,weight,cap\n",
+            "households,links,weight,cap\n",
             [
                 self.households,
                 self.links,
@@ -48,7 +48,7 @@ impl Report for LoadFault {
     fn report(&self, out: &mut [u8]) -> Result<usize, Refusal> {
         write_row(
             out,
-            b"refused,sheet,line,field\n",
+            "refused,sheet,line,field\n",
             [
                 u32::from(self.refusal()) as usize,
                 self.sheet() as usize,

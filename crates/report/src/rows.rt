@@ -1,31 +1,45 @@
 // A report of two lines: the names of four numbers, and the numbers.
-ghost use Rattle.std.specs.Prelude.{◌≡◌, length};
+ghost use Rattle.std.specs.Prelude.{◌≡◌, ◌≤◌, length};
 ghost use Rattle.report.specs.Reports.{Written};
 ghost use Rattle.report.specs.Texts.{row_text};
 
-use super::bytes::{put, put_field, width};
+use arrayvec::ArrayString;
+use itoa::Buffer;
 use parish::Refusal;
 
-fn row_length(names: &[u8], numbers: [usize; 4]) -> usize
-    ensures { result ≡ length (row_text names.now numbers) }
+// The longest line of names.
+const MOST_NAMES: usize = 28;
+
+// Room for a line of names, and four numbers of up to 20 digits, each with a byte after it.
+const ROOM: usize = 128;
+
+// The text of a report; `names` is its whole first line. Not by `write!`, which promises nothing of when it succeeds.
+fn row(names: &str, numbers: [usize; 4]) -> ArrayString<ROOM>
+    requires { length names.now ≤ MOST_NAMES }
+    ensures { result.bytes ≡ row_text names.now numbers }
 {
-    let [a, b, c, d] = numbers;
-    // A comma or byte 10 after each number.
-    let marks = 4;
-    names.len() + width(a) + width(b) + width(c) + width(d) + marks
+    let mut text = ArrayString::new();
+    let mut digits = Buffer::new();
+    text.push_str(names);
+    for (k, number) in numbers.iter().enumerate() {
+        if k > 0 {
+            text.push(',');
+        }
+        text.push_str(digits.format(*number));
+    }
+    text.push('\n');
+    text
 }
 
-// `names` is the whole first line.
-pub(crate) fn write_row(out: &mut [u8], names: &[u8], numbers: [usize; 4]) -> Result<usize, Refusal>
+// Writes the text at the front of `out`, where it fits, and answers its length.
+pub(crate) fn write_row(out: &mut [u8], names: &str, numbers: [usize; 4]) -> Result<usize, Refusal>
+    requires { length names.now ≤ MOST_NAMES }
     ensures { Written (row_text names.now numbers) out.old out.new result }
 {
-    if out.len() < row_length(names, numbers) {
+    let text = row(names, numbers);
+    if out.len() < text.len() {
         return Err(Refusal::WrongList);
     }
-    let [a, b, c, d] = numbers;
-    let at = put(out, 0, names);
-    let at = put_field(out, at, a, b',');
-    let at = put_field(out, at, b, b',');
-    let at = put_field(out, at, c, b',');
-    Ok(put_field(out, at, d, b'\n'))
+    out[..text.len()].copy_from_slice(text.as_bytes());
+    Ok(text.len())
 }

@@ -95,7 +95,7 @@ impl<'a, R: Abort> Runner<'a, R> {
     fn check_told(&self, case: Case<'_>, fault: LoadFault) {
         let line = case.line;
         let told = [
-            fault.refusal().number() as usize,
+            u32::from(fault.refusal()) as usize,
             fault.sheet() as usize,
             fault.line(),
             fault.field(),

@@ -1,8 +1,11 @@
-use Rattle.std.proofs.Common.{◌<◌, ◌≢◌, length, arith, get_or-set_other, get_or-set_same, below_more}
+use Rattle.std.proofs.Common.{◌≤◌, rules}
+use Rattle.std.specs.List.{All}
+use Rattle.std.proofs.lemmas.Fn.{chained_keeps}
+use Rattle.std.proofs.lemmas.List.Elements.{All-push}
 use Rattle.bench_bounds.proofs.drawn.Drawn.draw_lots.Goals as goal
 
-pub loop-lot-preserved : goal.loop-lot-preserved
-loop-lot-preserved c =
-    below_more _ _
-    (λ k h. let ne : k ≢ c.loop-lot.lot-index = omega arith in rw get_or-set_other (c.loop-lot.invariant k h))
-    (let lt : c.loop-lot.lot-index < length c.loop-lot.lots = omega arith in rw get_or-set_same c.draw_lot.ensures)
+pub returns : goal.returns
+returns c =
+    chained_keeps _ (λ lots _. All (λ lot. lot ≤ 2) lots)
+    (λ lots f lot g all call. All-push (λ l. l ≤ 2) lots lot all (search rules))
+    _ _ _ (search rules) c.fill_with.ensures.ran.1
