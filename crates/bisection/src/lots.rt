@@ -2,7 +2,7 @@
 ghost use Rattle.std.specs.Prelude.{◌≡◌};
 ghost use Rattle.parish.specs.View.{view};
 ghost use Rattle.parish.specs.Edits.{answered};
-ghost use Rattle.bisection.specs.Lots.{lots_fit, lots_table};
+ghost use Rattle.bisection.specs.Lots.{allowed, lots_fit, lots_table};
 
 use parish::{Lot, Parish, Refusal};
 
@@ -17,7 +17,13 @@ pub const IN_B: u8 = Lot::B as u8;
 pub fn lots_fit(parish: &Parish, lots: &[u8]) -> bool
     ensures { result ≡ lots_fit (view parish.now) lots.now }
 {
-    lots.len() == parish.households().len() && lots.iter().all(|lot| *lot <= IN_B)
+    lots.len() == parish.households().len() && bytes_allowed(lots)
+}
+
+fn bytes_allowed(lots: &[u8]) -> bool
+    ensures { result ≡ allowed lots.now }
+{
+    lots.iter().all(|lot| *lot <= IN_B)
 }
 
 // Refuses a list that does not fit.
