@@ -1,17 +1,14 @@
 -- What the functions on lists of lots lean on. Assumes nothing.
-use Rattle.std.proofs.Common.{◌≡◌, ℕ, ◌+◌, ◌<◌, ◌≤◌, true, cond, not, eqb, List, ◌∷◌, length, get_or, drop, Some, None, Ok, sym, ap, ◌∙◌, subst}
-use Rattle.std.proofs.lemmas.List.{at_drop_more, at_drop_all}
+use Rattle.std.proofs.Common.{◌≡◌, ℕ, ◌<◌, true, cond, not, List, length, get_or, Some, None, Ok, sym, ap, ◌∙◌, subst}
 use Rattle.parish.specs.Edits.{answered, answer_by}
 use Rattle.parish.specs.Limits.{Joins}
-use Rattle.parish.specs.Model.{Model, no_link, no_household}
+use Rattle.parish.specs.Model.{Model, no_link}
 use Rattle.parish.specs.View.{view}
-use Rattle.parish.specs.declared.items.Household.{Household}
 use Rattle.parish.specs.declared.items.Link.{Link}
 use Rattle.parish.specs.declared.refusals.Refusal.TheVariants.{WrongList}
 use Rattle.parish.specs.declared.store.Parish.{Parish}
 use Rattle.parish.proofs.Viewed.{parish_sound}
 use Rattle.bisection.specs.Lots.{lots_fit, lots_table}
-use Rattle.bisection.specs.Weights.{lot_weight}
 
 -- a link of the parish, read from a list that is its links
 pub link_joins : (p : Parish) (ls : List Link) (k : ℕ) → ls ≡ (view p).links → k < length ls → Joins (length (view p).households) (get_or ls k no_link)
