@@ -1,6 +1,7 @@
 -- Laws of lists that a test filters. Assumes nothing.
 use Rattle.std.proofs.Common.{◌≡◌, Bool, true, false, cond, ◌&&◌, List, [], ◌∷◌, map, filter, sym, refl, ap, ◌∙◌, ap₂}
 use Rattle.std.specs.List.{AllByRecursion}
+use Rattle.std.proofs.Math.Bool.{and_comm}
 use Rattle.std.proofs.lemmas.List.Elements.{filter_agree}
 
 pub kept_by_map : {X Y : Type 0} (test : Y → Bool) (f : X → Y) (xs : List X) → filter test (map f xs) ≡ map f (filter (λ x. test (f x)) xs)
@@ -22,13 +23,7 @@ kept_by_both p q (x ∷ xs) =
 
 -- the two tests in either order
 pub kept_by_swap : {X : Type 0} (p q : X → Bool) (xs : List X) → filter p (filter q xs) ≡ filter q (filter p xs)
-kept_by_swap p q xs = sym (kept_by_both q p xs) ∙ filter_agree _ _ (λ x. and_swap (q x) (p x)) xs ∙ kept_by_both p q xs
-  where
-    and_swap : (a b : Bool) → (a && b) ≡ (b && a)
-    and_swap true true = refl
-    and_swap true false = refl
-    and_swap false true = refl
-    and_swap false false = refl
+kept_by_swap p q xs = sym (kept_by_both q p xs) ∙ filter_agree _ _ (λ x. and_comm (q x) (p x)) xs ∙ kept_by_both p q xs
 
 -- two tests that agree on a list keep the same of it
 pub kept_by_same_in : {X : Type 0} (p q : X → Bool) (xs : List X) → AllByRecursion (λ x. p x ≡ q x) xs → filter p xs ≡ filter q xs
