@@ -1,9 +1,13 @@
 -- The two lots of a bisection weigh the whole. Assumes nothing.
-use Rattle.std.proofs.Common.{◌≡◌, ℕ, zero, suc, ◌+◌, ◌<◌, ◌≤◌, cond, eqb, List, [], ◌∷◌, length, get_or, arith}
+use Rattle.std.proofs.Common.{◌≡◌, ℕ, zero, suc, ◌+◌, ◌*◌, ◌<◌, ◌≤◌, Bool, true, false, cond, eqb, List, [], ◌∷◌, length, get_or, arith}
 use Rattle.std.proofs.lemmas.List.Sums.{sum_by-cons}
 use Rattle.std.proofs.lemmas.Bool.Decides.{nat_tests}
+use Rattle.parish.specs.Limits.{most_households, heaviest_held}
+use Rattle.parish.specs.View.{view}
 use Rattle.parish.specs.Weights.{total_weight}
 use Rattle.parish.specs.declared.items.Household.{Household}
+use Rattle.parish.specs.declared.store.Parish.{Parish}
+use Rattle.parish.proofs.Viewed.{total_held}
 use Rattle.bisection.specs.Weights.{lot_weight}
 use Rattle.bisection.specs.Words.{LeastLotWeight}
 
@@ -17,6 +21,23 @@ both_lots [] d e h = omega arith
 both_lots (x ∷ hs) [] e h = absurd (omega arith)
 both_lots (x ∷ hs) (y ∷ d) e h =
     omega (arith, in_one y x.weight (h zero (omega arith)), both_lots hs d (omega arith) (λ k lt. h (suc k) (omega arith)), sum_by-cons (λ (z : Household). z.weight) x hs)
+
+pub lot_weight-nil : (lot : ℕ) (hs : List Household) → lot_weight lot hs [] ≡ 0
+lot_weight-nil lot [] = omega arith
+lot_weight-nil lot (x ∷ hs) = omega arith
+
+-- a lot weighs no more than all households
+lot_within : (lot : ℕ) (hs : List Household) (d : List ℕ) → lot_weight lot hs d ≤ total_weight hs
+lot_within lot [] d = omega arith
+lot_within lot (x ∷ hs) [] = omega arith
+lot_within lot (x ∷ hs) (y ∷ d) = by (eqb y lot) (lot_within lot hs d)
+  where
+    by : (b : Bool) → lot_weight lot hs d ≤ total_weight hs → cond b x.weight 0 + lot_weight lot hs d ≤ total_weight (x ∷ hs)
+    by true h = omega (arith, h, sum_by-cons (λ (z : Household). z.weight) x hs)
+    by false h = omega (arith, h, sum_by-cons (λ (z : Household). z.weight) x hs)
+
+pub lot_light : (p : Parish) (lots : List ℕ) (lot : ℕ) → lot_weight lot (view p).households lots ≤ most_households * heaviest_held
+lot_light p lots lot = omega (arith, lot_within lot (view p).households lots, total_held p)
 
 pub least_lot_weighs : LeastLotWeight
 least_lot_weighs m limit d w =

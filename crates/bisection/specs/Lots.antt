@@ -1,5 +1,6 @@
 -- Lists of lots: a byte for each household, 0 unset, 1 in lot A, 2 in lot B. Assumes nothing.
 use Rattle.std.specs.Prelude.{◌≡◌, ℕ, ◌<◌, ◌≤◌, Bool, true, not, ◌&&◌, ◌||◌, List, [], ◌∷◌, map, length, Some, None, Option, ◌==◌, nat_le, slice_index}
+use Rattle.std.specs.List.{list_all}
 use Rattle.parish.specs.Lots.{lot_byte}
 use Rattle.parish.specs.Model.{Model}
 use Rattle.parish.specs.Refusals.{Row}
@@ -26,8 +27,7 @@ pinned m = map pin_byte (pins m)
 
 -- every byte of a list is 0, 1 or 2
 abbrev pub allowed : List ℕ → Bool
-allowed [] = true
-allowed (x ∷ xs) = nat_le x 2 && allowed xs
+allowed xs = list_all (λ x. nat_le x 2) xs
 
 -- a list has a byte for each household, and no byte above 2
 abbrev pub lots_fit : Model → List ℕ → Bool
@@ -44,8 +44,7 @@ lots_table m lots = record { applies = not (lots_fit m lots); refusal = WrongLis
 
 -- every byte of a list is 1 or 2
 abbrev pub all_set : List ℕ → Bool
-all_set [] = true
-all_set (x ∷ xs) = (x == 1 || x == 2) && all_set xs
+all_set xs = list_all (λ x. x == 1 || x == 2) xs
 
 -- a bisection puts every household in A or B
 abbrev pub bisects : Model → List ℕ → Bool

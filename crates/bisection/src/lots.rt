@@ -1,10 +1,12 @@
 // Lists of lots: a byte for each household.
 ghost use Rattle.std.specs.Prelude.{◌≡◌};
 ghost use Rattle.parish.specs.View.{view};
-ghost use Rattle.bisection.specs.Lots.{allowed, lots_fit};
+ghost use Rattle.parish.specs.Edits.{answered};
+ghost use Rattle.bisection.specs.Lots.{allowed, lots_fit, lots_table};
 
-use parish::{Lot, Parish};
+use parish::{Lot, Parish, Refusal};
 
+// Bytes: the form in which lists of lots are handed over.
 pub const UNSET: u8 = 0;
 
 pub const IN_A: u8 = Lot::A as u8;
@@ -21,10 +23,16 @@ pub fn lots_fit(parish: &Parish, lots: &[u8]) -> bool
 fn bytes_allowed(lots: &[u8]) -> bool
     ensures { result ≡ allowed lots.now }
 {
-    for lot in lots {
-        if *lot > IN_B {
-            return false;
-        }
+    lots.iter().all(|lot| *lot <= IN_B)
+}
+
+// Refuses a list that does not fit.
+pub fn check_lots(parish: &Parish, lots: &[u8]) -> Result<(), Refusal>
+    ensures { result ≡ answered (lots_table (view parish.now) lots.now) tt }
+{
+    if lots_fit(parish, lots) {
+        Ok(())
+    } else {
+        Err(Refusal::WrongList)
     }
-    true
 }

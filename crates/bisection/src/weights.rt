@@ -5,7 +5,7 @@ ghost use Rattle.parish.specs.Edits.{answered};
 ghost use Rattle.bisection.specs.Lots.{lots_table};
 ghost use Rattle.bisection.specs.Weights.{lot_weight};
 
-use super::lots::{IN_A, IN_B, lots_fit};
+use super::lots::{IN_A, IN_B, check_lots};
 use parish::{Parish, Refusal};
 
 // The weights of the two lots.
@@ -20,14 +20,11 @@ pub fn lot_weights(parish: &Parish, lots: &[u8]) -> Result<LotWeights, Refusal>
     ensures { result ≡ answered (lots_table (view parish.now) lots.now)
         (record { a = lot_weight 1 (view parish.now).households lots.now; b = lot_weight 2 (view parish.now).households lots.now }) }
 {
-    if !lots_fit(parish, lots) {
-        return Err(Refusal::WrongList);
-    }
-    let households = parish.households();
+    check_lots(parish, lots)?;
     let mut a = 0;
     let mut b = 0;
-    for (k, household) in households.iter().enumerate() {
-        match lots[k] {
+    for (household, lot) in parish.households().iter().zip(lots) {
+        match *lot {
             IN_A => a += household.weight,
             IN_B => b += household.weight,
             _ => {}

@@ -1,10 +1,32 @@
 // The worked cases, and others that an independent enumeration gave, on the definitions of the crates below.
 #![tactic(auto)]
 
+ghost use Rattle.std.specs.Prelude.{◌≡◌, IfOk};
+ghost use Rattle.parish.specs.View.{view};
+ghost use Rattle.cases.specs.Parishes.{worked};
 ghost use Rattle.cases.specs.Worked.{WorkedCases};
 ghost use Rattle.cases.specs.Flow.{FlowCase};
 ghost use Rattle.cases.specs.Enumerated.{EnumeratedCases};
 ghost use Rattle.cases.specs.Full.{FullStrengthsDoNotAdd};
+
+use parish::{Lot, Parish};
+use std::alloc::{AllocError, Global};
+
+// The worked parish: four households, the first in A, and a ring of links.
+pub fn worked_parish(heap: Global) -> Result<Parish, AllocError>
+    ensures { IfOk result (λ p. view p ≡ worked) }
+{
+    let mut parish = Parish::new(heap)?;
+    parish.add_household(3, Some(Lot::A)).unwrap();
+    parish.add_household(2, None).unwrap();
+    parish.add_household(2, None).unwrap();
+    parish.add_household(3, None).unwrap();
+    parish.add_link(0, 1, 4).unwrap();
+    parish.add_link(1, 2, 1).unwrap();
+    parish.add_link(2, 3, 4).unwrap();
+    parish.add_link(0, 3, 1).unwrap();
+    Ok(parish)
+}
 
 pub fn worked_cases_hold() -> u8
     ensures { WorkedCases }
@@ -35,29 +57,15 @@ pub fn full_strengths_do_not_add() -> u8
 
 #[cfg(test)]
 mod tests {
+    use super::worked_parish;
     use bisection::{cost, lot_weights};
     use bounds::{Decided, LowerBound, least_cost};
-    use parish::{Lot, Parish, Refusal};
-    use std::alloc::Global;
+    use parish::Refusal;
     use std::test::Fail;
-
-    // Four households, the first in A, and a ring of links.
-    fn worked(heap: Global) -> Result<Parish, Fail> {
-        let mut parish = Parish::new(heap)?;
-        parish.add_household(3, Some(Lot::A))?;
-        parish.add_household(2, None)?;
-        parish.add_household(2, None)?;
-        parish.add_household(3, None)?;
-        parish.add_link(0, 1, 4)?;
-        parish.add_link(1, 2, 1)?;
-        parish.add_link(2, 3, 4)?;
-        parish.add_link(0, 3, 1)?;
-        Ok(parish)
-    }
 
     #[test]
     fn measures(rt: HostRuntime) -> Result<(), Fail> {
-        let parish = worked(rt.alloc())?;
+        let parish = worked_parish(rt.alloc())?;
         assert_eq!(rt; parish.weight_cap(0)?, 5);
         assert_eq!(rt; cost(&parish, &[1, 1, 2, 2])?, 2);
         let weights = lot_weights(&parish, &[1, 1, 2, 0])?;
@@ -72,7 +80,7 @@ mod tests {
     // though a lawful bisection costs 2.
     #[test]
     fn full_strengths_exceed_a_cost(rt: HostRuntime) -> Result<(), Fail> {
-        let parish = worked(rt.alloc())?;
+        let parish = worked_parish(rt.alloc())?;
         let lots = [1, 0, 0, 2];
         let mut charges = [9; 4];
         let decided = Decided.consult(&parish, 5, &lots, &mut charges)?;

@@ -10,9 +10,6 @@ use Rattle.search.proofs.Best.{Outcome, Best, best_law}
 use Rattle.search.proofs.Listed.{all_lawful, lawful_has, sorted_lawful, before_self}
 use Rattle.search.proofs.Ordering.{one_first}
 
-differ : ◌≡◌ {A = ℕ} 0 1 → ⊥
-differ e = omega arith
-
 -- the first of least cost in the list, in words
 answers_by : (m : Model) (limit u : ℕ) (d : List ℕ) → Best (cost m) before u (lawful_bisections m limit) d → Answers m limit u d
 answers_by m limit u d b = record {
@@ -41,7 +38,7 @@ by_outcome : (m : Model) (limit u : ℕ) (o : Option (List ℕ)) → Outcome (co
 by_outcome m limit u None h e =
     let none : NoneBelow m limit u = lawful_has m limit (λ d. u ≤ cost m d) h.most in
     record {
-      found = λ d q. absurd (let z : ◌≡◌ {A = ℕ} 0 1 = cc in differ z);
+      found = λ d q. absurd (cc);
       only = λ d a. absurd (omega (arith, none d a.is_lawful, a.below_ceiling));
       none_below = λ _. none;
       none_since = λ _. e;
@@ -51,7 +48,7 @@ by_outcome m limit u (Some y) h e =
     record {
       found = λ d q. let same : y ≡ d = cc in subst (Answers m limit u) same a;
       only = λ d b. e ∙ (let same = same_answer m limit u y d a b in cc);
-      none_below = λ q. absurd (let z : ◌≡◌ {A = ℕ} 0 1 = cc in differ z);
+      none_below = λ q. absurd (cc);
       none_since = λ below. absurd (omega (arith, below y a.is_lawful, a.below_ceiling));
     }
 

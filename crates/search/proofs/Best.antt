@@ -1,17 +1,17 @@
 -- The least cost in a list and the first that has it, as the list grows. Assumes nothing.
 use Rattle.std.proofs.Common.{◌≡◌, ℕ, ◌<◌, ◌≤◌, min, Bool, true, false, cond, List, [], ◌∷◌, ◌++◌, Some, None, Option, sym, refl, ap, ◌∙◌, inl, inr, arith}
-use Rattle.std.specs.List.{ContainsAt as Has, AllByRecursion}
+use Rattle.std.specs.List.{ContainsAt, AllByRecursion}
 use Rattle.std.proofs.ByRecursion.{has_append_right, All-weaker}
 use Rattle.std.proofs.lemmas.Bool.{lt-ltb, le-ltb, cases_lt, both_ways}
 use Rattle.bisection.specs.Answers.{least, first_least, or_else}
 
+min_below : (u v : ℕ) → v < u → min u v ≡ v
+min_below u v h = omega arith
+
+min_above : (u v : ℕ) → u ≤ v → min u v ≡ u
+min_above u v h = omega arith
+
 module _ {X : Type 0} (f : X → ℕ) where
-  min_below : (u v : ℕ) → v < u → min u v ≡ v
-  min_below u v h = omega arith
-
-  min_above : (u v : ℕ) → u ≤ v → min u v ≡ u
-  min_above u v h = omega arith
-
   -- no cheaper one
   best_none : (u : ℕ) (ys : List X) → AllByRecursion (λ y. u ≤ f y) ys → first_least f u ys ≡ None
   best_none u [] h = refl
@@ -50,7 +50,7 @@ Sorted R [] = Unit {0}
 Sorted R (x ∷ xs) = AllByRecursion (λ z. R z x ≡ false) xs × Sorted R xs
 
 pub record Best {X : Type 0} (f : X → ℕ) (R : X → X → Bool) (u : ℕ) (xs : List X) (y : X) : Type 0 where
-  pub among : Has xs y
+  pub among : ContainsAt xs y
   pub costs : f y ≡ least f u xs
   pub below : f y < u
   pub most : AllByRecursion (λ x. f y ≤ f x) xs
@@ -65,10 +65,10 @@ Outcome f R u xs None = NoBest f u xs
 Outcome f R u xs (Some y) = Best f R u xs y
 
 module _ {X : Type 0} (f : X → ℕ) (R : X → X → Bool) (self : (x : X) → R x x ≡ false) where
-  has_here : (x : X) (xs : List X) → Has (x ∷ xs) x
+  has_here : (x : X) (xs : List X) → ContainsAt (x ∷ xs) x
   has_here x xs = (0, omega arith, λ d. refl)
 
-  has_later : (x : X) (xs : List X) (y : X) → Has xs y → Has (x ∷ xs) y
+  has_later : (x : X) (xs : List X) (y : X) → ContainsAt xs y → ContainsAt (x ∷ xs) y
   has_later x xs y h = has_append_right (x ∷ []) xs y h
 
   -- x costs less than u: it is the best unless a later one costs less
@@ -76,14 +76,14 @@ module _ {X : Type 0} (f : X → ℕ) (R : X → X → Bool) (self : (x : X) →
       → Outcome f R (f x) xs o → Outcome f R u (x ∷ xs) (or_else x o)
   taken u x xs lt s None h = record {
     among = has_here x xs;
-    costs = sym (ap (λ v. least f v xs) (min_below f u (f x) lt) ∙ h.costs);
+    costs = sym (ap (λ v. least f v xs) (min_below u (f x) lt) ∙ h.costs);
     below = lt;
     most = (omega arith, h.most);
     first = ((λ e. absurd (both_ways _ (self x) e)), All-weaker (λ z. R z x ≡ false) (λ z. R z x ≡ true → f x < f z) (λ z p e. absurd (both_ways _ p e)) xs s);
   }
   taken u x xs lt s (Some y) h = record {
     among = has_later x xs y h.among;
-    costs = h.costs ∙ sym (ap (λ v. least f v xs) (min_below f u (f x) lt));
+    costs = h.costs ∙ sym (ap (λ v. least f v xs) (min_below u (f x) lt));
     below = omega (arith, h.below);
     most = (omega (arith, h.below), h.most);
     first = ((λ e. h.below), h.first);
@@ -91,12 +91,12 @@ module _ {X : Type 0} (f : X → ℕ) (R : X → X → Bool) (self : (x : X) →
 
   passed : (u : ℕ) (x : X) (xs : List X) → u ≤ f x → (o : Option X) → Outcome f R u xs o → Outcome f R u (x ∷ xs) o
   passed u x xs le None h = record {
-    costs = ap (λ v. least f v xs) (min_above f u (f x) le) ∙ h.costs;
+    costs = ap (λ v. least f v xs) (min_above u (f x) le) ∙ h.costs;
     most = (le, h.most);
   }
   passed u x xs le (Some y) h = record {
     among = has_later x xs y h.among;
-    costs = h.costs ∙ sym (ap (λ v. least f v xs) (min_above f u (f x) le));
+    costs = h.costs ∙ sym (ap (λ v. least f v xs) (min_above u (f x) le));
     below = h.below;
     most = (omega (arith, h.below), h.most);
     first = ((λ e. omega (arith, h.below)), h.first);

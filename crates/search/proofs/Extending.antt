@@ -55,7 +55,7 @@ dealt_set (None ∷ ps) [] e k h = absurd (omega arith)
 dealt_set (None ∷ ps) (x ∷ n) e zero h = (byte_range x).0
 dealt_set (None ∷ ps) (x ∷ n) e (suc k) h = dealt_set ps n (omega arith) k (le_of_suc-le-suc h)
 
-length_pins : (m : Model) → length (pins m) ≡ length m.households
+pub length_pins : (m : Model) → length (pins m) ≡ length m.households
 length_pins m = length-map m.households (λ (h : Household). h.pin)
 
 pub lots_fit : (m : Model) (n : List Lot) → Lots m (lots_of m n)

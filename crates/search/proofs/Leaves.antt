@@ -2,11 +2,9 @@
 -- Assumes nothing.
 use Rattle.std.proofs.Common.{◌≡◌, ℕ, ◌≤◌, Bool, true, false, List, [], ◌∷◌, ◌++◌, map, length, Some, None, filter, Option, sym, refl, ap, ◌∙◌, ap₂, append-nil}
 use mathlib.Core.List.{map-map}
-use lib.ListN.{length-map}
 use Rattle.std.proofs.lemmas.List.Elements.{filter-append}
 use Rattle.std.proofs.lemmas.List.{map-append}
 use Rattle.parish.specs.Model.{Model}
-use Rattle.parish.specs.declared.items.Household.{Household}
 use Rattle.parish.specs.declared.items.Lot.{Lot}
 use Rattle.parish.specs.declared.items.Lot.TheVariants.{A, B}
 use Rattle.bisection.specs.Lots.{pin_byte, pins, pinned, extends}
@@ -14,6 +12,7 @@ use Rattle.bisection.specs.Weights.{balanced}
 use Rattle.bisection.specs.Bisections.{bisections, lawful_bisections, before}
 use Rattle.search.specs.Nodes.{free, dealt, lots_of, lawful_before}
 use Rattle.search.proofs.Kept.{kept_by_map, kept_by_none, kept_by_both, kept_by_swap}
+use Rattle.search.proofs.Extending.{length_pins}
 use Rattle.search.proofs.Listed.{lawful_is_kept}
 use Rattle.search.proofs.Order.{leaves, leaves_before, leaves_below, leaves_upto, on, upto_on}
 
@@ -68,11 +67,8 @@ kept_before (None ∷ ps) (B ∷ n) =
 abbrev pub lawful_of : Model → ℕ → List (List Lot) → List (List ℕ)
 lawful_of m limit ls = map (lots_of m) (filter (λ l. balanced m limit (lots_of m l)) ls)
 
-length_pins : (m : Model) → length m.households ≡ length (pins m)
-length_pins m = sym (length-map m.households (λ (h : Household). h.pin))
-
 kept_pins : (m : Model) → filter (extends (pinned m)) (bisections (length m.households)) ≡ map (lots_of m) (leaves (free (pins m)))
-kept_pins m = ap (λ n. filter (extends (pinned m)) (bisections n)) (length_pins m) ∙ kept_bisections (pins m)
+kept_pins m = ap (λ n. filter (extends (pinned m)) (bisections n)) (sym (length_pins m)) ∙ kept_bisections (pins m)
 
 lawful_is : (m : Model) (limit : ℕ) → lawful_bisections m limit ≡ lawful_of m limit (leaves (free (pins m)))
 lawful_is m limit =

@@ -1,7 +1,7 @@
 -- The lawful bisections: which are in their list, and its order. Assumes nothing.
-use Rattle.std.proofs.Common.{◌≡◌, ℕ, zero, suc, Bool, true, false, cond, ◌&&◌, eqb, List, [], ◌∷◌, ◌++◌, map, length, filter, refl, ap, ◌∙◌}
+use Rattle.std.proofs.Common.{◌≡◌, ℕ, zero, suc, Bool, true, false, cond, ◌&&◌, eqb, List, [], ◌∷◌, ◌++◌, map, length, get_or, filter, refl, ap, ◌∙◌}
 use Rattle.std.specs.List.{AllByRecursion}
-use Rattle.std.proofs.ByRecursion.{All-append, All-map, All-weaker, all_kept_by, kept_by_passes}
+use Rattle.std.proofs.ByRecursion.{All-from_get_or, All-append, All-map, All-weaker, all_kept_by, kept_by_passes}
 use Rattle.std.proofs.lemmas.Bool.{eq-eqb, or_right}
 use Rattle.parish.specs.Model.{Model}
 use Rattle.bisection.specs.Lots.{pinned, extends}
@@ -57,10 +57,6 @@ sorted_kept R p (x ∷ xs) s = by (p x) (all_kept_by p (λ z. R z x ≡ false) x
     by true h ih = (h, ih)
     by false h ih = ih
 
-every : {X : Type 0} (P : X → Type 0) → ((x : X) → P x) → (xs : List X) → AllByRecursion P xs
-every P h [] = tt
-every P h (x ∷ xs) = (h x, every P h xs)
-
 sorted_bisections : (n : ℕ) → Sorted before (bisections n)
 sorted_bisections zero = (tt, tt)
 sorted_bisections (suc n) =
@@ -68,7 +64,7 @@ sorted_bisections (suc n) =
     (sorted_map before before (λ d. 1 ∷ d) (λ x y. refl) (bisections n) (sorted_bisections n))
     (sorted_map before before (λ d. 2 ∷ d) (λ x y. refl) (bisections n) (sorted_bisections n))
     (All-map (λ x. AllByRecursion (λ y. before y x ≡ false) (map (λ d. 2 ∷ d) (bisections n))) (λ d. 1 ∷ d) (bisections n)
-    (every _ (λ x. All-map (λ y. before y (1 ∷ x) ≡ false) (λ d. 2 ∷ d) (bisections n) (every _ (λ y. refl) (bisections n))) (bisections n)))
+    (All-from_get_or _ (bisections n) [] (λ i _. All-map (λ y. before y (1 ∷ get_or (bisections n) i []) ≡ false) (λ d. 2 ∷ d) (bisections n) (All-from_get_or _ (bisections n) [] (λ j _. refl)))))
 
 pub sorted_lawful : (m : Model) (limit : ℕ) → Sorted before (lawful_bisections m limit)
 sorted_lawful m limit = sorted_kept before (lawful m limit) (bisections (length m.households)) (sorted_bisections (length m.households))

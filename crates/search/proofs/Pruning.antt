@@ -2,6 +2,7 @@
 -- Assumes nothing.
 use Rattle.std.proofs.Common.{◌≡◌, ℕ, zero, suc, ◌+◌, ◌<◌, ◌≤◌, Bool, true, false, cond, not, ◌&&◌, ◌||◌, ltb, leb, ◌⊎◌, List, [], ◌∷◌, ◌++◌, map, length, Some, Option, sym, refl, ap, ◌∙◌, subst, ap₂, inl, inr, append_assoc, append-nil, map-id, arith, length-append}
 use mathlib.Core.List.{map-map}
+use Rattle.std.proofs.Math.Path.{fun_ext}
 use Rattle.std.proofs.lemmas.List.{map-append}
 use Rattle.std.proofs.lemmas.Bool.{or_left, not_from_false, lt-ltb, le-ltb, cases_lt}
 use Rattle.parish.specs.Model.{Model, Sound}
@@ -15,9 +16,8 @@ use Rattle.bounds.specs.Bounds.{Lower}
 use Rattle.search.specs.Nodes.{free, lots_of, incumbent, closed}
 use Rattle.search.specs.Walking.{Walked, to_beat, better, prunes, walk_from, pruned_walk}
 use Rattle.search.specs.Words.{PrunedSearchLaw}
-use Rattle.search.proofs.Kept.{map_same}
 use Rattle.search.proofs.Order.{on, on_last_A, on_last_B}
-use Rattle.search.proofs.Walk.{walk, walked, walk_same}
+use Rattle.search.proofs.Walk.{walk, walked}
 use Rattle.search.proofs.Leading.{leader, leader_upto, leader_worth, leaf_better, leaf_same, leader_down, no_leader_first, leader_closed}
 
 -- a walk from a node takes what stands at and below it, and ends with the leader before the next node
@@ -63,8 +63,7 @@ module _ (number : Number) (m : Model) (limit ceiling : ℕ) (sound : Sound m) (
       → map (λ e. (n ++ x ∷ []) ++ e) (walk (λ e. closed number m limit ceiling ((n ++ x ∷ []) ++ e)) k)
       ≡ map (λ e. n ++ e) (part k n x)
   side n x k =
-      ap (map (λ e. (n ++ x ∷ []) ++ e)) (walk_same k _ _ (λ e. ap (closed number m limit ceiling) (append_assoc n (x ∷ []) e)))
-      ∙ map_same _ _ (λ e. append_assoc n (x ∷ []) e) (walk (λ e. closed number m limit ceiling (n ++ x ∷ e)) k)
+      ap (λ (f : List Lot → List Lot). map f (walk (λ e. closed number m limit ceiling (f e)) k)) (fun_ext (λ e. append_assoc n (x ∷ []) e))
       ∙ sym (map-map (λ e. n ++ e) (λ e. x ∷ e) (walk (λ e. closed number m limit ceiling (n ++ x ∷ e)) k))
 
   -- a walk of a node that is closed takes it alone

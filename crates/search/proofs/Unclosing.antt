@@ -1,8 +1,9 @@
 -- Standing, by test and in words. Assumes nothing.
-use Rattle.std.proofs.Common.{◌≡◌, ℕ, zero, suc, ◌<◌, Bool, true, false, not, ◌&&◌, ltb, leb, List, [], ◌∷◌, ◌++◌, length, filter, sym, refl, ap, subst, inl, inr, arith, length-append}
+use Rattle.std.proofs.Common.{◌≡◌, ℕ, zero, suc, ◌<◌, Bool, true, false, not, ◌&&◌, ltb, leb, List, [], ◌∷◌, ◌++◌, length, filter, Decides, sym, refl, ap, subst, inl, inr, arith, length-append}
 use Rattle.std.specs.List.{AllByRecursion}
-use Rattle.std.proofs.ByRecursion.{All-map, All-weaker}
-use Rattle.std.proofs.lemmas.Bool.{and_parts, and_from, not-true, not-false, not_from_false, not_from_true, or_parts, or_from, and_right, and_cases, lt-ltb, leb-false, lt-leb, both_ways}
+use Rattle.std.proofs.ByRecursion.{All-map, All-weaker, Decides-by_and}
+use Rattle.std.proofs.lemmas.Bool.{not-true, not-false, not_from_false, not_from_true, or_parts, or_from, and_right, and_cases, lt-ltb, leb-false, lt-leb, both_ways}
+use Rattle.std.proofs.lemmas.Bool.Decides.{Decides-like}
 use Rattle.parish.specs.Model.{Model}
 use Rattle.parish.specs.declared.items.Lot.{Lot}
 use Rattle.bisection.specs.Lots.{pins}
@@ -16,13 +17,8 @@ use Rattle.search.specs.Nodes.{free, lots_of, nodes, above, none, closed, stands
 use Rattle.search.specs.Words.{Unclosed, StandingLaw, EmptyNodeLaw}
 use Rattle.search.proofs.Listed.{all_lawful, lawful_has}
 
-none_all : {X : Type 0} (p : X → Bool) (xs : List X) → none p xs ≡ true → AllByRecursion (λ x. p x ≡ false) xs
-none_all p [] e = tt
-none_all p (x ∷ xs) e = let q = and_parts (not (p x)) (none p xs) e in (not-true (p x) q.0, none_all p xs q.1)
-
-all_none : {X : Type 0} (p : X → Bool) (xs : List X) → AllByRecursion (λ x. p x ≡ false) xs → none p xs ≡ true
-all_none p [] h = refl
-all_none p (x ∷ xs) h = and_from (not (p x)) (none p xs) (not_from_false (p x) h.0) (all_none p xs h.1)
+none_decided : {X : Type 0} (p : X → Bool) (xs : List X) → Decides (none p xs) (AllByRecursion (λ x. p x ≡ false) xs)
+none_decided p xs = Decides-by_and (λ x. not (p x)) (λ x. p x ≡ false) (none p) (λ x. (not-true (p x), not_from_false (p x))) refl (λ _ _. refl) xs
 
 -- the nodes above a node are its proper beginnings
 above_has : (P : List Lot → Type 0) (e : List Lot) (x : Lot) (r : List Lot) → AllByRecursion P (above (e ++ x ∷ r)) → P e
@@ -62,13 +58,12 @@ module _ (number : Number) (m : Model) (limit ceiling : ℕ) where
       (and_right (ltb (length e) (free (pins m))) (leb (incumbent m limit ceiling e) (number m limit (lots_of m e))) (lt-leb _ _ low))
 
 pub in_words : StandingLaw
-in_words number m limit ceiling n fits = (
-  (λ s e x r q.
-      let P : List Lot → Type 0 = λ n. AllByRecursion (λ e. closed number m limit ceiling e ≡ false) (above n) in
-      let h = subst P (sym q) (none_all (closed number m limit ceiling) (above n) s) in
-      opened number m limit ceiling e (omega (arith, length-append e (x ∷ r), ap length q)) (above_has (λ e. closed number m limit ceiling e ≡ false) e x r h)),
-  (λ w. all_none (closed number m limit ceiling) (above n) (all_above (λ e. closed number m limit ceiling e ≡ false) n (λ e x r q. shut number m limit ceiling e (w e x r q)))),
-)
+in_words number m limit ceiling n fits =
+    let P : List Lot → Type 0 = λ e. closed number m limit ceiling e ≡ false in
+    Decides-like (stands number m limit ceiling n)
+    (λ h e x r q. opened number m limit ceiling e (omega (arith, length-append e (x ∷ r), ap length q)) (above_has P e x r (subst (λ l. AllByRecursion P (above l)) (sym q) h)))
+    (λ w. all_above P n (λ e x r q. shut number m limit ceiling e (w e x r q)))
+    (none_decided (closed number m limit ceiling) (above n))
 
 -- the empty node lies below no other, and comes first
 pub empty_first : EmptyNodeLaw

@@ -1,10 +1,11 @@
 -- The standing nodes by a walk, over any test C for closed. Assumes nothing.
 use Rattle.std.proofs.Common.{◌≡◌, ℕ, zero, suc, Bool, true, false, cond, not, ◌&&◌, List, [], ◌∷◌, ◌++◌, map, filter, refl, ap, ◌∙◌, ap₂}
-use Rattle.std.proofs.lemmas.List.Elements.{filter-append}
+use Rattle.std.proofs.lemmas.List.Elements.{filter-append, filter_agree}
+use Rattle.std.proofs.lemmas.List.Folds.{list_all-map}
 use Rattle.parish.specs.declared.items.Lot.{Lot}
 use Rattle.parish.specs.declared.items.Lot.TheVariants.{A, B}
 use Rattle.search.specs.Nodes.{nodes, above, none}
-use Rattle.search.proofs.Kept.{kept_by_map, kept_by_same, kept_by_none, none_map}
+use Rattle.search.proofs.Kept.{kept_by_map, kept_by_none}
 
 abbrev pub stands_by : (List Lot → Bool) → List Lot → Bool
 stands_by C n = none C (above n)
@@ -20,7 +21,7 @@ side : (C : List Lot → Bool) (x : Lot) (ns : List (List Lot))
     → filter (stands_by C) (map (λ n. x ∷ n) ns) ≡ cond (C []) [] (map (λ n. x ∷ n) (filter (stands_by (λ n. C (x ∷ n))) ns))
 side C x ns =
     kept_by_map (stands_by C) (λ n. x ∷ n) ns
-    ∙ ap (map (λ n. x ∷ n)) (kept_by_same _ (λ n. not (C []) && stands_by (λ e. C (x ∷ e)) n) (λ n. ap (λ b. not (C []) && b) (none_map C (λ e. x ∷ e) (above n))) ns)
+    ∙ ap (map (λ n. x ∷ n)) (filter_agree _ (λ n. not (C []) && stands_by (λ e. C (x ∷ e)) n) (λ n. ap (λ b. not (C []) && b) (list_all-map (λ e. not (C e)) (λ e. x ∷ e) (above n))) ns)
     ∙ by_test (C [])
   where
     by_test : (b : Bool) → map (λ n. x ∷ n) (filter (λ n. not b && stands_by (λ e. C (x ∷ e)) n) ns) ≡ cond b [] (map (λ n. x ∷ n) (filter (stands_by (λ n. C (x ∷ n))) ns))
@@ -40,11 +41,3 @@ walked (suc k) C =
         ≡ cond b [] (map (λ n. A ∷ n) (walk (λ n. C (A ∷ n)) k) ++ map (λ n. B ∷ n) (walk (λ n. C (B ∷ n)) k))
     joined true = refl
     joined false = refl
-
--- the walk by two tests that agree
-pub walk_same : (k : ℕ) (C D : List Lot → Bool) → ((n : List Lot) → C n ≡ D n) → walk C k ≡ walk D k
-walk_same zero C D h = refl
-walk_same (suc k) C D h =
-    ap (λ r. [] ∷ r)
-    (ap₂ (λ b r. cond b [] r) (h [])
-    (ap₂ (λ a b. map (λ n. A ∷ n) a ++ map (λ n. B ∷ n) b) (walk_same k _ _ (λ n. h (A ∷ n))) (walk_same k _ _ (λ n. h (B ∷ n)))))

@@ -1,6 +1,7 @@
 -- The nodes of a search over a parish, and those that stand. A node deals lots to the free households, the lowest first. It
 -- lies below each shorter node that it goes on from. Assumes nothing.
-use Rattle.std.specs.Prelude.{ℕ, zero, suc, Bool, true, not, ◌&&◌, ◌||◌, List, [], ◌∷◌, ◌++◌, map, length, Some, None, filter, Option, nat_le, nat_lt}
+use Rattle.std.specs.Prelude.{ℕ, zero, suc, Bool, not, ◌&&◌, ◌||◌, List, [], ◌∷◌, ◌++◌, map, length, Some, None, filter, Option, nat_le, nat_lt}
+use Rattle.std.specs.List.{list_all}
 use Rattle.parish.specs.Model.{Model}
 use Rattle.parish.specs.declared.items.Lot.{Lot}
 use Rattle.parish.specs.declared.items.Lot.TheVariants.{A, B}
@@ -41,8 +42,7 @@ above (x ∷ n) = [] ∷ map (λ e. x ∷ e) (above n)
 
 -- nothing in a list passes a test
 abbrev pub none : {X : Type 0} → (X → Bool) → List X → Bool
-none test [] = true
-none test (x ∷ xs) = not (test x) && none test xs
+none test xs = list_all (λ x. not (test x)) xs
 
 -- the lawful bisections before a node
 abbrev pub lawful_before : Model → ℕ → List Lot → List (List ℕ)
