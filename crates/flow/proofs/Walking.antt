@@ -1,106 +1,80 @@
 -- A path taken arc by arc, from its last. Assumes nothing.
-use Rattle.std.proofs.Common.{◌≡◌, ℕ, suc, ◌-◌, ◌*◌, ◌<◌, ◌≤◌, min, cond, List, [], ◌∷◌, length, get_or, sym, refl, ap, ◌∙◌, subst, arith}
-use Rattle.std.specs.List.{AllByRecursion}
-use Rattle.parish.specs.Limits.{strongest_held}
-use Rattle.parish.specs.declared.items.Link.{Link}
+use Rattle.std.proofs.Common.{◌≡◌, ℕ, suc, ◌<◌, ◌≤◌, min, List, [], ◌∷◌, length, sym, refl, ap, ◌∙◌, subst, ap₂, arith}
+use Rattle.bisection.specs.Answers.{least}
 use Rattle.flows.specs.declared.items.Arc.{Arc}
 use Rattle.flows.specs.declared.items.Mark.{Mark}
-use Rattle.bisection.specs.Answers.{least}
-use Rattle.flows.specs.Paths.{tail, room_of, send, send_all, Open}
-use Rattle.flows.specs.Rounds.{Roomed}
-use Rattle.flows.specs.Levels.{no_mark, arc_to, path_back}
-use Rattle.flows.specs.Trees.{Within, Network}
+use Rattle.flows.specs.Paths.{tail, room_of, send_all, Open}
+use Rattle.flows.specs.Levels.{arc_to, path_back}
 use Rattle.flows.proofs.Ends.{tail_within}
-use Rattle.flows.proofs.Sending.{all_both, room_kept_at}
-use Rattle.flow.specs.Sendable.{Fits, Sendable}
+use Rattle.flows.proofs.Sending.{open_rest}
+use Rattle.flow.specs.declared.network.Network.{Network}
+use Rattle.flow.specs.declared.network.Search.{Search}
+use Rattle.flow.specs.Searching.{room_in, IsThere, Sends}
 
--- one arc of the path back, and the rest
-pub path_more : (ls : List Link) (marks : List Mark) (n more v : ℕ) (a : Arc) (u : ℕ) → n ≡ suc more → a ≡ arc_to ls marks v → u ≡ tail ls a
-    → path_back ls marks n v ≡ a ∷ path_back ls marks more u
-path_more ls marks n more v a u e is next =
-    ap (λ i. path_back ls marks i v) e
-    ∙ ap (λ x. x ∷ path_back ls marks more (tail ls x)) (sym is)
-    ∙ ap (λ y. a ∷ path_back ls marks more y) (sym next)
-
--- and no arc
-pub path_none : (ls : List Link) (marks : List Mark) (n v : ℕ) → n ≡ 0 → path_back ls marks n v ≡ []
-path_none ls marks n v e = ap (λ i. path_back ls marks i v) e
+-- the path back from a household, through so many arcs
+abbrev pub path_from : Search → ℕ → ℕ → List Arc
+path_from s n v = path_back s.network.links.now s.marks.now n v
 
 -- before an arc is taken: the least room so far goes on to that of the whole path, whose links are there
-pub record Measuring (ls : List Link) (left room : List ℕ) (marks : List Mark) (n sofar v whole : ℕ) : Type 0 where
-  pub goes_on : least (room_of left room) sofar (path_back ls marks n v) ≡ whole
-  pub reached : v < length marks
-  pub there : AllByRecursion (λ a. a.link < length ls) (path_back ls marks n v)
+pub record Measuring (s : Search) (n sofar v whole : ℕ) : Type 0 where
+  pub goes_on : least (room_in s) sofar (path_from s n v) ≡ whole
+  pub reached : v < length s.marks.now
+  pub there : IsThere s (path_from s n v)
 
--- and before one is sent along: what is left of the path can be, and comes to what the whole does
-pub record Walking (ls : List Link) (room : List ℕ) (marks : List Mark) (d n v : ℕ) (whole : List ℕ) : Type 0 where
-  pub goes_on : send_all d room (path_back ls marks n v) ≡ whole
-  pub reached : v < length marks
-  pub sendable : Sendable ls room d (path_back ls marks n v)
+-- and before one is sent along, from s to t: what is left of the path is open, and comes to what the whole does
+pub record Walking (s t : Search) (d n v : ℕ) (whole : List ℕ) : Type 0 where
+  pub network : t.network ≡ s.network
+  pub marks : t.marks.now ≡ s.marks.now
+  pub goes_on : send_all d t.room.now (path_from s n v) ≡ whole
+  pub reached : v < length s.marks.now
+  pub clear : Open s.network.links.now s.network.left.now t.room.now d (path_from s n v)
 
--- what is left of a path can be sent along, after its last arc
-pub sendable_rest : (ls : List Link) (room : List ℕ) (d : ℕ) (a : Arc) (p : List Arc) → Sendable ls room d (a ∷ p) → Sendable ls (send d room a) d p
-sendable_rest ls room d a p h =
+-- the households that arcs come from have marks
+pub tail_reached : (s : Search) (a : Arc) (u : ℕ) → u ≡ tail s.network.links.now a → a.link < length s.network.links.now → u < length s.marks.now
+tail_reached s a u next lt = omega (arith, s.marked, tail_within (length s.network.lots.now) s.network.links.now a s.network.fits.ends lt)
+
+-- one arc of the path back, and the rest
+path_more : (s : Search) (n more v : ℕ) (a : Arc) (u : ℕ) → n ≡ suc more → a ≡ arc_to s.network.links.now s.marks.now v → u ≡ tail s.network.links.now a
+    → path_from s n v ≡ a ∷ path_from s more u
+path_more s n more v a u e is next =
+    ap (λ i. path_from s i v) e
+    ∙ ap (λ x. x ∷ path_from s more (tail s.network.links.now x)) (sym is)
+    ∙ ap (λ y. a ∷ path_from s more y) (sym next)
+
+pub measuring_more : (s : Search) (n more v : ℕ) (a : Arc) (u sofar now' whole : ℕ) → n ≡ suc more → a ≡ arc_to s.network.links.now s.marks.now v
+    → u ≡ tail s.network.links.now a → now' ≡ min sofar (room_in s a) → Measuring s n sofar v whole → Measuring s more now' u whole
+measuring_more s n more v a u sofar now' whole e is next q h =
+    let m = path_more s n more v a u e is next in
+    let there : IsThere s (a ∷ path_from s more u) = subst (IsThere s) m h.there in
     record {
-      apart = h.apart.1;
-      there = h.there.1;
-      fits = all_both (λ b. a.link ≡ b.link → ⊥) (Fits d room) (Fits d (send d room a)) p
-          (λ b ne f.
-          let same : get_or (send d room a) b.link 0 ≡ get_or room b.link 0 = room_kept_at d room a b ne in
-          (λ o. omega (arith, f.0 o), λ o. omega (arith, f.1 o)))
-          h.apart.0 h.fits.1;
+      goes_on = ap (λ x. least (room_in s) x (path_from s more u)) q ∙ sym (ap (least (room_in s) sofar) m) ∙ h.goes_on;
+      reached = tail_reached s a u next there.0;
+      there = there.1;
     }
 
--- where a path is open to an amount, it can be sent by the room alone
-pub open_sendable : (ls : List Link) (left room : List ℕ) (n d : ℕ) (p : List Arc) → Network ls left n → Roomed ls left room → Open ls left room d p
-    → Sendable ls room d p
-open_sendable ls left room n d p net ok h =
-    record {
-      apart = h.apart;
-      there = h.there;
-      fits = all_both (λ a. a.link < length ls) (λ a. d ≤ room_of left room a) (Fits d room) p
-          (λ a lt le. one a le (net.small a.link) (ok.within a.link)) h.there h.roomy;
-    }
-  where
-    one : (a : Arc) → d ≤ room_of left room a → get_or left a.link 0 ≤ strongest_held → get_or room a.link 0 ≤ 2 * get_or left a.link 0 → Fits d room a
-    one a le small within =
-        let r : ℕ = get_or room a.link 0 in
-        let b : ℕ = 2 * get_or left a.link 0 - get_or room a.link 0 in
-        (λ e. subst (λ x. d ≤ x) (ap (λ o. cond o r b) e) le, λ e. let back : d ≤ b = subst (λ x. d ≤ x) (ap (λ o. cond o r b) e) le in omega arith)
+module _ (s t : Search) (d n more v : ℕ) (whole : List ℕ) (e : n ≡ suc more) (h : Walking s t d n v whole) (a : Arc)
+    (is : a ≡ arc_to t.network.links.now t.marks.now v) where
+  is_old : a ≡ arc_to s.network.links.now s.marks.now v
+  is_old = is ∙ ap₂ (λ (net : Network) (ms : List Mark). arc_to net.links.now ms v) h.network h.marks
 
--- ---- one arc more
-module _ (ls : List Link) (marks : List Mark) (n more v : ℕ) (e : n ≡ suc more) where
-  -- the link by which the household at hand was reached
-  pub link_there : AllByRecursion (λ a. a.link < length ls) (path_back ls marks n v) → (get_or marks v no_mark).link < length ls
-  link_there h =
-      (subst (λ p. AllByRecursion (λ a. a.link < length ls) p) (path_more ls marks n more v (arc_to ls marks v) (tail ls (arc_to ls marks v)) e refl refl) h).0
+  opens : (u : ℕ) → u ≡ tail s.network.links.now a → Open s.network.links.now s.network.left.now t.room.now d (a ∷ path_from s more u)
+  opens u next = subst (Open s.network.links.now s.network.left.now t.room.now d) (path_more s n more v a u e is_old next) h.clear
 
-  module _ (a : Arc) (u : ℕ) (is : a ≡ arc_to ls marks v) (next : u ≡ tail ls a) (ends : Within (length marks) ls) where
-    more_is : path_back ls marks n v ≡ a ∷ path_back ls marks more u
-    more_is = path_more ls marks n more v a u e is next
+  pub walking_there : a.link < length s.network.links.now
+  walking_there = (opens (tail s.network.links.now a) refl).there.0
 
-    inside : a.link < length ls → u < length marks
-    inside lt = omega (arith, tail_within (length marks) ls a ends lt)
+  pub walking_room : d ≤ room_in t a
+  walking_room =
+      subst (λ (net : Network). d ≤ room_of net.left.now t.room.now a) (sym h.network) (opens (tail s.network.links.now a) refl).roomy.0
 
-    pub measuring_more : (left room : List ℕ) (sofar now' whole : ℕ) → Measuring ls left room marks n sofar v whole → now' ≡ min sofar (room_of left room a)
-        → Measuring ls left room marks more now' u whole
-    measuring_more left room sofar now' whole h q =
-        let there : AllByRecursion (λ b. b.link < length ls) (a ∷ path_back ls marks more u) = subst (λ p. AllByRecursion (λ b. b.link < length ls) p) more_is h.there in
-        record {
-          goes_on = ap (λ x. least (room_of left room) x (path_back ls marks more u)) q ∙ sym (ap (least (room_of left room) sofar) more_is) ∙ h.goes_on;
-          reached = inside there.0;
-          there = there.1;
-        }
-
-    pub walking_open : (room : List ℕ) (d : ℕ) (whole : List ℕ) → Walking ls room marks d n v whole → Sendable ls room d (a ∷ path_back ls marks more u)
-    walking_open room d whole h = subst (λ p. Sendable ls room d p) more_is h.sendable
-
-    pub walking_more : (room : List ℕ) (d : ℕ) (whole after : List ℕ) → Walking ls room marks d n v whole → after ≡ send d room a
-        → Walking ls after marks d more u whole
-    walking_more room d whole after h q =
-        let o = walking_open room d whole h in
-        record {
-          goes_on = ap (λ r. send_all d r (path_back ls marks more u)) q ∙ sym (ap (send_all d room) more_is) ∙ h.goes_on;
-          reached = inside o.there.0;
-          sendable = subst (λ r. Sendable ls r d (path_back ls marks more u)) (sym q) (sendable_rest ls room d a (path_back ls marks more u) o);
-        }
+  pub walking_more : (t' : Search) (u : ℕ) → u ≡ tail s.network.links.now a → Sends t t' d (a ∷ []) → Walking s t' d more u whole
+  walking_more t' u next q =
+      let o = opens u next in
+      record {
+        network = q.network ∙ h.network;
+        marks = q.marks ∙ h.marks;
+        goes_on = ap (λ r. send_all d r (path_from s more u)) q.room ∙ sym (ap (send_all d t.room.now) (path_more s n more v a u e is_old next)) ∙ h.goes_on;
+        reached = tail_reached s a u next o.there.0;
+        clear = subst (λ r. Open s.network.links.now s.network.left.now r d (path_from s more u)) (sym q.room)
+            (open_rest s.network.links.now s.network.left.now d t.room.now a (path_from s more u) o);
+      }

@@ -13,7 +13,7 @@ abbrev pub Within : ℕ → List Link → Type 0
 Within n ls = (k : ℕ) → k < length ls → ((link_at ls k).from < n) × ((link_at ls k).to < n)
 
 -- the lists that a search among n households reads fit one another and the limits of a parish
-pub record Network (ls : List Link) (left : List ℕ) (n : ℕ) : Type 0 where
+pub record IsNetwork (ls : List Link) (left : List ℕ) (n : ℕ) : Type 0 where
   pub ends : Within n ls
   pub few : n ≤ most_households
   pub short : length ls ≤ most_links
