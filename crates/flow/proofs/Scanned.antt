@@ -1,5 +1,5 @@
 -- What the loop over the links of a level knows at each link. Assumes nothing.
-use Rattle.std.proofs.Common.{◌≡◌, ℕ, zero, suc, ◌+◌, ◌-◌, ◌*◌, ◌<◌, ◌≤◌, Bool, true, false, cond, ◌&&◌, ◌==◌, List, ◌∷◌, length, get_or, set, Some, None, sym, refl, ap, ◌∙◌, subst, ap₂, add-one, arith}
+use Rattle.std.proofs.Common.{◌≡◌, ℕ, zero, suc, ◌+◌, ◌-◌, ◌*◌, ◌<◌, ◌≤◌, Bool, true, false, cond, ◌&&◌, ◌==◌, List, ◌∷◌, length, get_or, set, Some, None, Option, sym, refl, ap, ◌∙◌, subst, ap₂, add-one, arith}
 use Rattle.std.proofs.lemmas.Bool.{eq-eqb, ne_eqb, eqb-true, and_parts}
 use Rattle.parish.specs.Limits.{most_links, strongest_held}
 use Rattle.parish.specs.declared.items.Link.{Link}
@@ -7,10 +7,10 @@ use Rattle.flows.specs.declared.items.Arc.{Arc}
 use Rattle.flows.specs.declared.items.Mark.{Mark}
 use Rattle.bounds.specs.Sums.{sum_below}
 use Rattle.bounds.specs.Left.{link_at}
-use Rattle.flows.specs.Paths.{head, least_room, send_all, Open}
+use Rattle.flows.specs.Paths.{tail, head, least_room, send_all, Open}
 use Rattle.flows.specs.Rounds.{Roomed}
-use Rattle.flows.specs.Levels.{level_one, Scan, fresh, goes_on, path_before, arc_on, sent_by, reached_by, by_arc, take_link, take_links, search_from, searched}
-use Rattle.flows.specs.Trees.{IsNetwork, Ready}
+use Rattle.flows.specs.Levels.{level_of, level_one, Scan, fresh, goes_on, path_before, arc_on, sent_by, reached_by, by_arc, take_link, take_links, search_from, searched}
+use Rattle.flows.specs.Trees.{IsNetwork, Tree, Ready}
 use Rattle.bounds.proofs.Indexed.{sum_below_le}
 use Rattle.flows.proofs.Sending.{crossing, residual}
 use Rattle.flows.proofs.Rounds.{group_A, group_A_parts, Moved, moved_sends}
@@ -18,7 +18,7 @@ use Rattle.flows.proofs.Levels.{LeadsOn, arc_some, blank, way_by}
 use Rattle.flows.proofs.Scanning.{Scanning, scanning, next_ready, first_ready}
 use Rattle.flow.specs.declared.network.Network.{Network}
 use Rattle.flow.specs.declared.network.Search.{Search}
-use Rattle.flow.specs.Searching.{arc_on_in, path_to, least_room_in, IsReady, IsOpen, Sends, Reaches, Scans, Searches}
+use Rattle.flow.specs.Searching.{arc_on_in, path_to, least_room_in, IsTree, IsReady, IsOpen, Sends, Reaches, Scans, Searches}
 
 -- what a scan can send at most: twice what is left of every link
 abbrev pub most_sent : ℕ
@@ -45,7 +45,7 @@ abbrev pub scan_of : Bool → ℕ → Search → Scan
 scan_of grew sent t = record { grew = grew; sent = sent; room = t.room.now; marks = t.marks.now }
 
 -- two of these with the same parts
-scan_same : {g h : Bool} {x y : ℕ} {r q : List ℕ} {m n : List Mark} → g ≡ h → x ≡ y → r ≡ q → m ≡ n
+scan_same : {g h : Bool} {x y : ℕ} {r q : List ℕ} {m n : List (Option Mark)} → g ≡ h → x ≡ y → r ≡ q → m ≡ n
     → ◌≡◌ {A = Scan} (record { grew = g; sent = x; room = r; marks = m }) (record { grew = h; sent = y; room = q; marks = n })
 scan_same a b c d = cc
 
@@ -98,13 +98,29 @@ module _ (s t : Search) (depth k : ℕ) (grew : Bool) (sent : ℕ) (ready : IsRe
     pub scan_there : a.link < length s.network.links.now
     scan_there = omega (arith, arc_is.0)
 
-    -- where it leads to B, the path that it ends is open
-    pub scan_open : get_or s.network.lots.now (head s.network.links.now a) 0 ≡ 2 → IsOpen t (least_room_in t depth a) (path_to t depth a)
+    -- the marks are a tree, and where it leads to B the path that it ends is open
+    tree_old : Tree s.network.links.now s.network.lots.now t.marks.now
+    tree_old = (scan_state s depth ready k (omega arith) (scan_of grew sent t) h.scan).tree
+
+    pub scan_tree : IsTree t
+    scan_tree = subst (λ (net : Network). Tree net.links.now net.lots.now t.marks.now) (sym h.network) tree_old
+
+    path_is : path_to t a ≡ a ∷ path_before s.network.links.now t.marks.now depth a
+    path_is =
+        ap (λ (net : Network). a ∷ path_before net.links.now t.marks.now (level_of t.marks.now (tail net.links.now a)) a) h.network
+        ∙ ap (λ n. a ∷ path_before s.network.links.now t.marks.now n a) arc_is.1.here
+
+    least_is : least_room_in t a ≡ least_room s.network.left.now t.room.now a (path_before s.network.links.now t.marks.now depth a)
+    least_is =
+        ap (λ (net : Network). least_room net.left.now t.room.now a (path_before net.links.now t.marks.now (level_of t.marks.now (tail net.links.now a)) a)) h.network
+        ∙ ap (λ n. least_room s.network.left.now t.room.now a (path_before s.network.links.now t.marks.now n a)) arc_is.1.here
+
+    pub scan_open : get_or s.network.lots.now (head s.network.links.now a) 0 ≡ 2 → IsOpen t (least_room_in t a) (path_to t a)
     scan_open goal =
-        subst (λ (net : Network). Open net.links.now net.left.now t.room.now (least_room net.left.now t.room.now a (path_before net.links.now t.marks.now depth a)) (a ∷ path_before net.links.now t.marks.now depth a))
+        rw (path_is, least_is)
+        (subst (λ (net : Network). Open net.links.now net.left.now t.room.now (least_room s.network.left.now t.room.now a (path_before s.network.links.now t.marks.now depth a)) (a ∷ path_before s.network.links.now t.marks.now depth a))
         (sym h.network)
-        (way_by s.network.links.now s.network.lots.now t.marks.now (scan_state s depth ready k (omega arith) (scan_of grew sent t) h.scan).tree
-        s.network.left.now t.room.now depth a ready.deep scan_there arc_is.1 goal).clear
+        (way_by s.network.links.now s.network.lots.now t.marks.now tree_old s.network.left.now t.room.now depth a ready.deep scan_there arc_is.1 goal).clear)
 
     taken : (b : Bool) → (get_or s.network.lots.now (head s.network.links.now a) 0 == 2) ≡ b
         → cond b (sent_by s.network.links.now s.network.left.now depth (scan_of grew sent t) a) (reached_by s.network.links.now depth (scan_of grew sent t) a)
@@ -113,15 +129,14 @@ module _ (s t : Search) (depth k : ℕ) (grew : Bool) (sent : ℕ) (ready : IsRe
         sym (ap (λ x. cond x (sent_by s.network.links.now s.network.left.now depth (scan_of grew sent t) a) (reached_by s.network.links.now depth (scan_of grew sent t) a)) e)
         ∙ ap (by_arc s.network.links.now s.network.lots.now s.network.left.now depth (scan_of grew sent t)) (found ∙ found_old) ∙ more
 
-    pub scan_send : get_or s.network.lots.now (head s.network.links.now a) 0 ≡ 2 → (t' : Search) (d : ℕ) → d ≡ least_room_in t depth a
-        → Sends t t' d (path_to t depth a) → Taking s t' depth (k + 1) grew (sent + d)
+    pub scan_send : get_or s.network.lots.now (head s.network.links.now a) 0 ≡ 2 → (t' : Search) (d : ℕ) → d ≡ least_room_in t a
+        → Sends t t' d (path_to t a) → Taking s t' depth (k + 1) grew (sent + d)
     scan_send goal t' d amount q =
-        let least = amount ∙ ap (λ (net : Network). least_room net.left.now t.room.now a (path_before net.links.now t.marks.now depth a)) h.network in
-        let path = ap (λ (net : Network). send_all d t.room.now (a ∷ path_before net.links.now t.marks.now depth a)) h.network in
+        let least : d ≡ least_room s.network.left.now t.room.now a (path_before s.network.links.now t.marks.now depth a) = amount ∙ least_is in
         record {
           network = q.network ∙ h.network;
           scan = scan_same refl (ap (λ n. sent + n) least)
-              (q.room ∙ path ∙ ap (λ n. send_all n t.room.now (a ∷ path_before s.network.links.now t.marks.now depth a)) least) q.marks
+              (q.room ∙ ap (send_all d t.room.now) path_is ∙ ap (λ n. send_all n t.room.now (a ∷ path_before s.network.links.now t.marks.now depth a)) least) q.marks
               ∙ taken true (eq-eqb (get_or s.network.lots.now (head s.network.links.now a) 0) 2 goal);
         }
 
@@ -131,7 +146,7 @@ module _ (s t : Search) (depth k : ℕ) (grew : Bool) (sent : ℕ) (ready : IsRe
         record {
           network = q.network ∙ h.network;
           scan = scan_same refl refl q.room
-              (q.marks ∙ ap (λ (net : Network). set t.marks.now (head net.links.now a) (record { level = depth + 1; link = a.link })) h.network)
+              (q.marks ∙ ap (λ (net : Network). set t.marks.now (head net.links.now a) (Some (record { level = depth + 1; arc = Some a }))) h.network)
               ∙ taken false (ne_eqb (get_or s.network.lots.now (head s.network.links.now a) 0) 2 free);
         }
 
@@ -154,8 +169,8 @@ first_level s t n all same room marks =
       network = same;
       goes_on = ap (λ i. search_on t i 1) all
           ∙ ap (λ (net : Network). search_from net.links.now net.lots.now net.left.now (length s.network.lots.now) 1 t.room.now t.marks.now) same
-          ∙ ap₂ (λ (r : List ℕ) (ms : List Mark). search_from s.network.links.now s.network.lots.now s.network.left.now (length s.network.lots.now) 1 r ms) room marks;
-      ready = subst (λ (ms : List Mark). Ready t.network.links.now t.network.lots.now t.network.left.now 1 t.room.now ms) (sym (marks ∙ ap (λ (net : Network). level_one net.lots.now) (sym same)))
+          ∙ ap₂ (λ (r : List ℕ) (ms : List (Option Mark)). search_from s.network.links.now s.network.lots.now s.network.left.now (length s.network.lots.now) 1 r ms) room marks;
+      ready = subst (λ (ms : List (Option Mark)). Ready t.network.links.now t.network.lots.now t.network.left.now 1 t.room.now ms) (sym (marks ∙ ap (λ (net : Network). level_one net.lots.now) (sym same)))
           (first_ready t.network.links.now t.network.lots.now t.network.left.now t.network.fits.ends t.room.now);
     }
 

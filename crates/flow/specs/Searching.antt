@@ -1,12 +1,11 @@
 -- What the program holds of a search, in the words of the theory. Assumes nothing.
-use Rattle.std.specs.Prelude.{◌≡◌, ℕ, ◌+◌, ◌<◌, Bool, List, ◌∷◌, length, Option, slice_set}
-use Rattle.std.specs.List.{AllByRecursion}
+use Rattle.std.specs.Prelude.{◌≡◌, ℕ, ◌+◌, Bool, List, ◌∷◌, Some, Option, slice_set}
 use Rattle.parish.specs.Model.{Model, Sound}
 use Rattle.bisection.specs.Lots.{Lots}
 use Rattle.flows.specs.declared.items.Arc.{Arc}
-use Rattle.flows.specs.Paths.{head, room_of, least_room, send_all, Open}
-use Rattle.flows.specs.Levels.{Scan, path_before, leads_on, arc_on, scan_level, searched}
-use Rattle.flows.specs.Trees.{Ready}
+use Rattle.flows.specs.Paths.{tail, head, room_of, least_room, send_all, Open}
+use Rattle.flows.specs.Levels.{level_of, Scan, path_before, leads_on, arc_on, scan_level, searched}
+use Rattle.flows.specs.Trees.{Tree, Ready}
 use Rattle.flow.specs.declared.network.Network.{Network}
 use Rattle.flow.specs.declared.network.Search.{Search}
 
@@ -28,17 +27,18 @@ leads_on_in s depth a = leads_on s.network.links.now s.network.left.now s.room.n
 abbrev pub arc_on_in : Search → ℕ → ℕ → Option Arc
 arc_on_in s depth k = arc_on s.network.links.now s.network.left.now s.room.now s.marks.now depth k
 
--- the path that ends with an arc from a level
-abbrev pub path_to : Search → ℕ → Arc → List Arc
-path_to s depth a = a ∷ path_before s.network.links.now s.marks.now depth a
+-- the path that an arc ends, back through the levels
+abbrev pub path_to : Search → Arc → List Arc
+path_to s a = a ∷ path_before s.network.links.now s.marks.now (level_of s.marks.now (tail s.network.links.now a)) a
 
 -- the least room along it
-abbrev pub least_room_in : Search → ℕ → Arc → ℕ
-least_room_in s depth a = least_room s.network.left.now s.room.now a (path_before s.network.links.now s.marks.now depth a)
+abbrev pub least_room_in : Search → Arc → ℕ
+least_room_in s a =
+    least_room s.network.left.now s.room.now a (path_before s.network.links.now s.marks.now (level_of s.marks.now (tail s.network.links.now a)) a)
 
--- the links of a path are there
-abbrev pub IsThere : Search → List Arc → Type 0
-IsThere s p = AllByRecursion (λ a. a.link < length s.network.links.now) p
+-- the marks are those of levels
+abbrev pub IsTree : Search → Type 0
+IsTree s = Tree s.network.links.now s.network.lots.now s.marks.now
 
 -- an amount can be sent along a path
 abbrev pub IsOpen : Search → ℕ → List Arc → Type 0
@@ -58,7 +58,7 @@ pub record Sends (s s' : Search) (d : ℕ) (p : List Arc) : Type 0 where
 pub record Reaches (s s' : Search) (depth : ℕ) (a : Arc) : Type 0 where
   pub network : s'.network ≡ s.network
   pub room : s'.room.now ≡ s.room.now
-  pub marks : s'.marks.now ≡ slice_set s.marks.now (head s.network.links.now a) (record { level = depth + 1; link = a.link })
+  pub marks : s'.marks.now ≡ slice_set s.marks.now (head s.network.links.now a) (Some (record { level = depth + 1; arc = Some a }))
 
 -- a level is scanned
 pub record Scans (s s' : Search) (depth : ℕ) (grew : Bool) (sent : ℕ) : Type 0 where

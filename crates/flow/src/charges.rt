@@ -11,7 +11,6 @@ ghost use Rattle.flows.specs.Paths.{distance, amounts};
 ghost use Rattle.flows.specs.Levels.{flow_charges};
 
 use super::network::{Network, Search};
-use flows::Mark;
 use parish::{Link, MOST_HOUSEHOLDS, MOST_LINKS, Parish};
 
 // Fills left with what charges leave of each link.
@@ -58,7 +57,7 @@ pub(crate) fn add_flow<'a>(parish: &'a Parish, lots: &'a [u8], charges: &mut [u3
 {
     let mut left_scratch = [0; MOST_LINKS];
     let mut room_scratch = [0; MOST_LINKS];
-    let mut mark_scratch = [Mark { level: 0, link: 0 }; MOST_HOUSEHOLDS];
+    let mut mark_scratch = [None; MOST_HOUSEHOLDS];
     let left = &mut left_scratch[0..charges.len()];
     let room = &mut room_scratch[0..charges.len()];
     fill_left(parish.links(), charges, left);

@@ -25,13 +25,16 @@ impl Scanned {
 
 // At first the households of A are reached.
 // A place in each list, since nothing is known of what a `zip` with `iter_mut` writes.
-fn mark_first(lots: &[u8], marks: &mut [Mark])
+fn mark_first(lots: &[u8], marks: &mut [Option<Mark>])
     requires { length marks.old ≡ length lots.now }
     ensures { marks.new ≡ level_one lots.now }
 {
     for (household, lot) in lots.iter().enumerate() {
-        let level = if *lot == IN_A { 1 } else { 0 };
-        marks[household] = Mark { level, link: 0 };
+        let mark = Mark {
+            level: 1,
+            arc: None,
+        };
+        marks[household] = (*lot == IN_A).then_some(mark);
     }
 }
 
@@ -41,9 +44,9 @@ impl Search<'_, '_> {
         requires { arc.link < length self.now.network.links.now }
         ensures { result ≡ leads_on_in self.now depth arc }
     {
-        let from = self.marks[self.network.tail(arc)].level;
-        let to = self.marks[self.network.head(arc)].level;
-        from == depth && to == 0 && self.room_along(arc) > 0
+        let from = self.marks[self.network.tail(arc)];
+        let to = self.marks[self.network.head(arc)];
+        from.is_some_and(|mark| mark.level == depth) && to.is_none() && self.room_along(arc) > 0
     }
 
     // The arc by which a link does so, if one does.
@@ -73,10 +76,10 @@ impl Search<'_, '_> {
     {
         let network = self.network;
         let household = network.head(arc);
-        self.marks[household] = Mark {
+        self.marks[household] = Some(Mark {
             level: depth + 1,
-            link: arc.link,
-        };
+            arc: Some(arc),
+        });
     }
 
     // Takes each link in turn: what it leads to is reached, or sent to where it is set in B.
@@ -91,7 +94,7 @@ impl Search<'_, '_> {
         for link in 0..network.links.len() {
             if let Some(arc) = self.arc_on(depth, link) {
                 if network.lots[network.head(arc)] == IN_B {
-                    sent += self.send_most(depth, arc);
+                    sent += self.send_most(arc);
                 } else {
                     self.reach(depth, arc);
                     grew = true;

@@ -22,7 +22,7 @@ pub(crate) struct Network<'a> {
 pub(crate) struct Search<'n, 'a> {
     pub(crate) network: Network<'n>,
     pub(crate) room: &'a mut [u32],
-    pub(crate) marks: &'a mut [Mark],
+    pub(crate) marks: &'a mut [Option<Mark>],
     ghost roomed: { Roomed network.links.now network.left.now room.now },
     ghost marked: { length marks.now ≡ length network.lots.now },
 }

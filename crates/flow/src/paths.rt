@@ -1,23 +1,19 @@
 // Paths back from an arc to a household of A, through the arcs by which a search reached its households.
-ghost use Rattle.std.specs.Prelude.{◌≡◌, ◌<◌, min, length, slice_index_or};
-ghost use Rattle.flows.specs.Levels.{no_mark, arc_to};
-ghost use Rattle.flow.specs.Searching.{room_in, least_room_in, path_to, IsThere, IsOpen, Sends};
+ghost use Rattle.std.specs.Prelude.{◌≡◌, ◌<◌, min, length};
+ghost use Rattle.flows.specs.Paths.{tail};
+ghost use Rattle.flows.specs.Levels.{arc_to};
+ghost use Rattle.flow.specs.Searching.{room_in, least_room_in, path_to, IsTree, IsOpen, Sends};
 
 use super::network::Search;
 use flows::Arc;
 
 impl Search<'_, '_> {
-    // The arc by which a household was reached.
-    fn arc_to(&self, household: usize) -> Arc
-        requires reached { household < length self.now.marks.now }
-        requires there { (slice_index_or self.now.marks.now household no_mark).link < length self.now.network.links.now }
-        ensures { result ≡ arc_to self.now.network.links.now self.now.marks.now household }
+    // The arc before one: that by which the household was reached that it comes from, if by one.
+    fn before(&self, arc: Arc) -> Option<Arc>
+        requires { arc.link < length self.now.network.links.now }
+        ensures { result ≡ arc_to self.now.marks.now (tail self.now.network.links.now arc) }
     {
-        let link = self.marks[household].link;
-        Arc {
-            link,
-            onward: self.network.links[link].to == household,
-        }
+        self.marks[self.network.tail(arc)]?.arc
     }
 
     // The lesser of an amount and the room along an arc.
@@ -28,44 +24,43 @@ impl Search<'_, '_> {
         amount.min(self.room_along(arc))
     }
 
-    // The least room along the path that ends with an arc from a level.
-    fn least_room(&self, depth: usize, last: Arc) -> u32
-        requires { IsThere self.now (path_to self.now depth last) }
-        ensures { result ≡ least_room_in self.now depth last }
+    // The least room along the path that an arc ends.
+    fn least_room(&self, last: Arc) -> u32
+        requires tree { IsTree self.now }
+        requires there { last.link < length self.now.network.links.now }
+        ensures { result ≡ least_room_in self.now last }
     {
         let mut least = self.room_along(last);
-        let mut household = self.network.tail(last);
-        for _level in 1..depth {
-            let arc = self.arc_to(household);
+        let mut next = self.before(last);
+        while let Some(arc) = next {
             least = self.lesser(arc, least);
-            household = self.network.tail(arc);
+            next = self.before(arc);
         }
         least
     }
 
-    // Sends an amount along the path that ends with an arc from a level.
-    fn send_back(&mut self, depth: usize, last: Arc, amount: u32)
-        requires { IsOpen self.old amount (path_to self.old depth last) }
-        ensures { Sends self.old self.new amount (path_to self.old depth last) }
+    // Sends an amount along the path that an arc ends.
+    fn send_back(&mut self, last: Arc, amount: u32)
+        requires tree { IsTree self.old }
+        requires open { IsOpen self.old amount (path_to self.old last) }
+        ensures { Sends self.old self.new amount (path_to self.old last) }
     {
-        let network = self.network;
-        self.send_along(last, amount);
-        let mut household = network.tail(last);
-        for _level in 1..depth {
-            let arc = self.arc_to(household);
+        let mut next = Some(last);
+        while let Some(arc) = next {
             self.send_along(arc, amount);
-            household = network.tail(arc);
+            next = self.before(arc);
         }
     }
 
-    // Sends as much as there is room for along the path that ends with an arc from a level, and answers how much.
-    pub(crate) fn send_most(&mut self, depth: usize, last: Arc) -> u32
-        requires { IsOpen self.old (least_room_in self.old depth last) (path_to self.old depth last) }
-        ensures amount { result ≡ least_room_in self.old depth last }
-        ensures after { Sends self.old self.new result (path_to self.old depth last) }
+    // Sends as much as there is room for along the path that an arc ends, and answers how much.
+    pub(crate) fn send_most(&mut self, last: Arc) -> u32
+        requires tree { IsTree self.old }
+        requires open { IsOpen self.old (least_room_in self.old last) (path_to self.old last) }
+        ensures amount { result ≡ least_room_in self.old last }
+        ensures after { Sends self.old self.new result (path_to self.old last) }
     {
-        let amount = self.least_room(depth, last);
-        self.send_back(depth, last, amount);
+        let amount = self.least_room(last);
+        self.send_back(last, amount);
         amount
     }
 }
