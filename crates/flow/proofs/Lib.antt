@@ -1,3 +1,4 @@
 pub mod Walking
 pub mod Scanned
 pub mod Sent
+pub mod Parishes

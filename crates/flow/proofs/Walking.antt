@@ -1,106 +1,108 @@
 -- A path taken arc by arc, from its last. Assumes nothing.
-use Rattle.std.proofs.Common.{◌≡◌, ℕ, suc, ◌-◌, ◌*◌, ◌<◌, ◌≤◌, min, cond, List, [], ◌∷◌, length, get_or, sym, refl, ap, ◌∙◌, subst, arith}
-use Rattle.std.specs.List.{AllByRecursion}
-use Rattle.parish.specs.Limits.{strongest_held}
-use Rattle.parish.specs.declared.items.Link.{Link}
+use Rattle.std.proofs.Common.{◌≡◌, ℕ, zero, suc, ◌-◌, ◌<◌, min, List, [], ◌∷◌, length, Some, None, Option, sym, refl, ap, ◌∙◌, subst, ap₂, arith}
+use Rattle.bisection.specs.Answers.{least}
 use Rattle.flows.specs.declared.items.Arc.{Arc}
 use Rattle.flows.specs.declared.items.Mark.{Mark}
-use Rattle.bisection.specs.Answers.{least}
-use Rattle.flows.specs.Paths.{tail, room_of, send, send_all, Open}
-use Rattle.flows.specs.Rounds.{Roomed}
-use Rattle.flows.specs.Levels.{no_mark, arc_to, path_back}
-use Rattle.flows.specs.Trees.{Within, Network}
-use Rattle.flows.proofs.Ends.{tail_within}
-use Rattle.flows.proofs.Sending.{all_both, room_kept_at}
-use Rattle.flow.specs.Sendable.{Fits, Sendable}
+use Rattle.flows.specs.Paths.{tail, send_all, Open}
+use Rattle.flows.specs.Levels.{level_of, arc_to, path_back}
+use Rattle.flows.specs.Trees.{Parent}
+use Rattle.flows.proofs.Levels.{path_more}
+use Rattle.flows.proofs.Sending.{open_rest}
+use Rattle.flow.specs.declared.network.Network.{Network}
+use Rattle.flow.specs.declared.network.Search.{Search}
+use Rattle.flow.specs.Searching.{room_in, least_room_in, path_to, IsTree, Sends}
 
--- one arc of the path back, and the rest
-pub path_more : (ls : List Link) (marks : List Mark) (n more v : ℕ) (a : Arc) (u : ℕ) → n ≡ suc more → a ≡ arc_to ls marks v → u ≡ tail ls a
-    → path_back ls marks n v ≡ a ∷ path_back ls marks more u
-path_more ls marks n more v a u e is next =
-    ap (λ i. path_back ls marks i v) e
-    ∙ ap (λ x. x ∷ path_back ls marks more (tail ls x)) (sym is)
-    ∙ ap (λ y. a ∷ path_back ls marks more y) (sym next)
+-- the path that an arc ends, if there is one
+abbrev pub path_by : Search → Option Arc → List Arc
+path_by s None = []
+path_by s (Some a) = path_to s a
 
--- and no arc
-pub path_none : (ls : List Link) (marks : List Mark) (n v : ℕ) → n ≡ 0 → path_back ls marks n v ≡ []
-path_none ls marks n v e = ap (λ i. path_back ls marks i v) e
+-- the arc before one
+abbrev pub before : Search → Arc → Option Arc
+before s a = arc_to s.marks.now (tail s.network.links.now a)
 
--- before an arc is taken: the least room so far goes on to that of the whole path, whose links are there
-pub record Measuring (ls : List Link) (left room : List ℕ) (marks : List Mark) (n sofar v whole : ℕ) : Type 0 where
-  pub goes_on : least (room_of left room) sofar (path_back ls marks n v) ≡ whole
-  pub reached : v < length marks
-  pub there : AllByRecursion (λ a. a.link < length ls) (path_back ls marks n v)
+-- before an arc is taken: it is there, and the least room so far goes on to that of the whole path
+pub record Measuring (s : Search) (next : Option Arc) (sofar whole : ℕ) : Type 0 where
+  pub there : (a : Arc) → next ≡ Some a → a.link < length s.network.links.now
+  pub goes_on : least (room_in s) sofar (path_by s next) ≡ whole
 
--- and before one is sent along: what is left of the path can be, and comes to what the whole does
-pub record Walking (ls : List Link) (room : List ℕ) (marks : List Mark) (d n v : ℕ) (whole : List ℕ) : Type 0 where
-  pub goes_on : send_all d room (path_back ls marks n v) ≡ whole
-  pub reached : v < length marks
-  pub sendable : Sendable ls room d (path_back ls marks n v)
+-- and before one is sent along, from s to t: what is left of the path is open, and comes to what the whole does
+pub record Walking (s t : Search) (d : ℕ) (next : Option Arc) (whole : List ℕ) : Type 0 where
+  pub network : t.network ≡ s.network
+  pub marks : t.marks.now ≡ s.marks.now
+  pub goes_on : send_all d t.room.now (path_by s next) ≡ whole
+  pub clear : Open s.network.links.now s.network.left.now t.room.now d (path_by s next)
 
--- what is left of a path can be sent along, after its last arc
-pub sendable_rest : (ls : List Link) (room : List ℕ) (d : ℕ) (a : Arc) (p : List Arc) → Sendable ls room d (a ∷ p) → Sendable ls (send d room a) d p
-sendable_rest ls room d a p h =
-    record {
-      apart = h.apart.1;
-      there = h.there.1;
-      fits = all_both (λ b. a.link ≡ b.link → ⊥) (Fits d room) (Fits d (send d room a)) p
-          (λ b ne f.
-          let same : get_or (send d room a) b.link 0 ≡ get_or room b.link 0 = room_kept_at d room a b ne in
-          (λ o. omega (arith, f.0 o), λ o. omega (arith, f.1 o)))
-          h.apart.0 h.fits.1;
-    }
+module _ (s : Search) (tree : IsTree s) where
+  -- the path back from a household is that by the arc to it
+  back_by : (v n : ℕ) → level_of s.marks.now v ≡ n → path_back s.network.links.now s.marks.now (n - 1) v ≡ path_by s (arc_to s.marks.now v)
+  back_by v zero e = sym (ap (path_by s) (tree.roots v (omega arith)))
+  back_by v (suc zero) e = sym (ap (path_by s) (tree.roots v (omega arith)))
+  back_by v (suc (suc d)) e =
+      let p : Parent s.network.links.now s.marks.now v d = tree.linked v d e in
+      let steps : suc (suc d) - 1 ≡ suc d = omega arith in
+      let level : d ≡ level_of s.marks.now (tail s.network.links.now p.arc) - 1 = omega (arith, p.above) in
+      ap (λ i. path_back s.network.links.now s.marks.now i v) steps
+      ∙ path_more s.network.links.now s.marks.now d v p.arc p.is
+      ∙ ap (λ i. p.arc ∷ path_back s.network.links.now s.marks.now i (tail s.network.links.now p.arc)) level
+      ∙ sym (ap (path_by s) p.is)
 
--- where a path is open to an amount, it can be sent by the room alone
-pub open_sendable : (ls : List Link) (left room : List ℕ) (n d : ℕ) (p : List Arc) → Network ls left n → Roomed ls left room → Open ls left room d p
-    → Sendable ls room d p
-open_sendable ls left room n d p net ok h =
-    record {
-      apart = h.apart;
-      there = h.there;
-      fits = all_both (λ a. a.link < length ls) (λ a. d ≤ room_of left room a) (Fits d room) p
-          (λ a lt le. one a le (net.small a.link) (ok.within a.link)) h.there h.roomy;
-    }
-  where
-    one : (a : Arc) → d ≤ room_of left room a → get_or left a.link 0 ≤ strongest_held → get_or room a.link 0 ≤ 2 * get_or left a.link 0 → Fits d room a
-    one a le small within =
-        let r : ℕ = get_or room a.link 0 in
-        let b : ℕ = 2 * get_or left a.link 0 - get_or room a.link 0 in
-        (λ e. subst (λ x. d ≤ x) (ap (λ o. cond o r b) e) le, λ e. let back : d ≤ b = subst (λ x. d ≤ x) (ap (λ o. cond o r b) e) le in omega arith)
+  -- one arc of the path, and the rest
+  one_more : (a : Arc) → path_to s a ≡ a ∷ path_by s (before s a)
+  one_more a =
+      ap (λ p. a ∷ p) (back_by (tail s.network.links.now a) (level_of s.marks.now (tail s.network.links.now a)) refl)
 
--- ---- one arc more
-module _ (ls : List Link) (marks : List Mark) (n more v : ℕ) (e : n ≡ suc more) where
-  -- the link by which the household at hand was reached
-  pub link_there : AllByRecursion (λ a. a.link < length ls) (path_back ls marks n v) → (get_or marks v no_mark).link < length ls
-  link_there h =
-      (subst (λ p. AllByRecursion (λ a. a.link < length ls) p) (path_more ls marks n more v (arc_to ls marks v) (tail ls (arc_to ls marks v)) e refl refl) h).0
+  -- the arc before one is there
+  arc_there : (v n : ℕ) → level_of s.marks.now v ≡ n → (a : Arc) → arc_to s.marks.now v ≡ Some a → a.link < length s.network.links.now
+  arc_there v zero e a is = absurd (let z = sym (tree.roots v (omega arith)) ∙ is in cc)
+  arc_there v (suc zero) e a is = absurd (let z = sym (tree.roots v (omega arith)) ∙ is in cc)
+  arc_there v (suc (suc d)) e a is =
+      let p : Parent s.network.links.now s.marks.now v d = tree.linked v d e in
+      let some : ◌≡◌ {A = Option Arc} (Some p.arc) (Some a) = sym p.is ∙ is in
+      let same : p.arc ≡ a = cc in
+      subst (λ (b : Arc). b.link < length s.network.links.now) same p.there
 
-  module _ (a : Arc) (u : ℕ) (is : a ≡ arc_to ls marks v) (next : u ≡ tail ls a) (ends : Within (length marks) ls) where
-    more_is : path_back ls marks n v ≡ a ∷ path_back ls marks more u
-    more_is = path_more ls marks n more v a u e is next
+  -- the least room is measured from the last arc on
+  pub measuring_from : (a : Arc) (next : Option Arc) (sofar whole : ℕ) → next ≡ before s a → least (room_in s) sofar (path_by s (before s a)) ≡ whole
+      → Measuring s next sofar whole
+  measuring_from a next sofar whole q e =
+      record {
+        there = λ b is. arc_there (tail s.network.links.now a) (level_of s.marks.now (tail s.network.links.now a)) refl b (sym q ∙ is);
+        goes_on = ap (λ o. least (room_in s) sofar (path_by s o)) q ∙ e;
+      }
 
-    inside : a.link < length ls → u < length marks
-    inside lt = omega (arith, tail_within (length marks) ls a ends lt)
+  pub measuring_first : (a : Arc) (next : Option Arc) (sofar : ℕ) → next ≡ before s a → sofar ≡ room_in s a → Measuring s next sofar (least_room_in s a)
+  measuring_first a next sofar q r =
+      measuring_from a next sofar (least_room_in s a) q
+      (ap (λ x. least (room_in s) x (path_by s (before s a))) r
+      ∙ ap (least (room_in s) (room_in s a)) (sym (back_by (tail s.network.links.now a) (level_of s.marks.now (tail s.network.links.now a)) refl)))
 
-    pub measuring_more : (left room : List ℕ) (sofar now' whole : ℕ) → Measuring ls left room marks n sofar v whole → now' ≡ min sofar (room_of left room a)
-        → Measuring ls left room marks more now' u whole
-    measuring_more left room sofar now' whole h q =
-        let there : AllByRecursion (λ b. b.link < length ls) (a ∷ path_back ls marks more u) = subst (λ p. AllByRecursion (λ b. b.link < length ls) p) more_is h.there in
-        record {
-          goes_on = ap (λ x. least (room_of left room) x (path_back ls marks more u)) q ∙ sym (ap (least (room_of left room) sofar) more_is) ∙ h.goes_on;
-          reached = inside there.0;
-          there = there.1;
-        }
+  module _ (next next' : Option Arc) (a : Arc) (is : next ≡ Some a) where
+    by_more : path_by s next ≡ a ∷ path_by s (before s a)
+    by_more = ap (path_by s) is ∙ one_more a
 
-    pub walking_open : (room : List ℕ) (d : ℕ) (whole : List ℕ) → Walking ls room marks d n v whole → Sendable ls room d (a ∷ path_back ls marks more u)
-    walking_open room d whole h = subst (λ p. Sendable ls room d p) more_is h.sendable
+    pub fewer : next' ≡ before s a → length (path_by s next') < length (path_by s next)
+    fewer q = omega (arith, ap length by_more, ap (λ o. length (path_by s o)) q)
 
-    pub walking_more : (room : List ℕ) (d : ℕ) (whole after : List ℕ) → Walking ls room marks d n v whole → after ≡ send d room a
-        → Walking ls after marks d more u whole
-    walking_more room d whole after h q =
-        let o = walking_open room d whole h in
-        record {
-          goes_on = ap (λ r. send_all d r (path_back ls marks more u)) q ∙ sym (ap (send_all d room) more_is) ∙ h.goes_on;
-          reached = inside o.there.0;
-          sendable = subst (λ r. Sendable ls r d (path_back ls marks more u)) (sym q) (sendable_rest ls room d a (path_back ls marks more u) o);
-        }
+    pub measuring_more : (sofar now' whole : ℕ) → next' ≡ before s a → now' ≡ min sofar (room_in s a) → Measuring s next sofar whole → Measuring s next' now' whole
+    measuring_more sofar now' whole q r h =
+        measuring_from a next' now' whole q (ap (λ x. least (room_in s) x (path_by s (before s a))) r ∙ sym (ap (least (room_in s) sofar) by_more) ∙ h.goes_on)
+
+    module _ (t t' : Search) (d : ℕ) (whole : List ℕ) (h : Walking s t d next whole) where
+      opens : Open s.network.links.now s.network.left.now t.room.now d (a ∷ path_by s (before s a))
+      opens = subst (Open s.network.links.now s.network.left.now t.room.now d) by_more h.clear
+
+      module _ (sent : Sends t t' d (a ∷ [])) (q : next' ≡ before t' a) where
+        pub next_is : next' ≡ before s a
+        next_is = q ∙ ap₂ (λ (net : Network) (ms : List (Option Mark)). arc_to ms (tail net.links.now a)) (sent.network ∙ h.network) (sent.marks ∙ h.marks)
+
+        pub walking_more : Walking s t' d next' whole
+        walking_more =
+            rw next_is
+            (record {
+              network = sent.network ∙ h.network;
+              marks = sent.marks ∙ h.marks;
+              goes_on = ap (λ r. send_all d r (path_by s (before s a))) sent.room ∙ sym (ap (send_all d t.room.now) by_more) ∙ h.goes_on;
+              clear = subst (λ r. Open s.network.links.now s.network.left.now r d (path_by s (before s a))) (sym sent.room)
+                  (open_rest s.network.links.now s.network.left.now d t.room.now a (path_by s (before s a)) opens);
+            })

@@ -1,1 +1,1 @@
-pub mod Sendable
+pub mod Searching

@@ -1,38 +1,27 @@
 // Searches, one after another.
-ghost use Rattle.std.specs.Prelude.{◌≡◌, ℕ, ◌≤◌, length, slice_index};
-ghost use Rattle.parish.specs.Limits.{strongest_held};
-ghost use Rattle.parish.specs.View.{view};
-ghost use Rattle.bisection.specs.Lots.{Lots};
+ghost use Rattle.std.specs.Prelude.{◌≡◌};
+ghost use Rattle.parish.specs.Model.{Model};
 ghost use Rattle.flows.specs.Cuts.{least_cut};
 ghost use Rattle.flows.specs.Levels.{chosen_room};
+ghost use Rattle.flow.specs.Searching.{IsOf};
 
-use super::levels::search;
-use flows::Mark;
-use parish::Parish;
+use super::network::Search;
 
-// Searches until nothing is sent, and answers how much was sent in all.
-pub(crate) fn send_all(
-    parish: &Parish,
-    lots: &[u8],
-    left: &[u32],
-    room: &mut [u32],
-    marks: &mut [Mark],
-) -> u32
-    requires fit { Lots (view parish.now) lots.now }
-    requires left_fit { length left.now ≡ length (view parish.now).links }
-    requires small { (k : ℕ) → slice_index left.now k ≤ strongest_held }
-    requires unused { room.old ≡ left.now }
-    requires marks_fit { length marks.old ≡ length lots.now }
-    ensures sent { result ≡ least_cut (view parish.now) lots.now left.now }
-    ensures room { room.new ≡ chosen_room (view parish.now) lots.now left.now }
-{
-    let links = parish.links();
-    let mut total = 0;
-    loop {
-        let sent = search(links, lots, left, room, marks);
-        if sent == 0 {
-            return total;
+impl Search<'_, '_> {
+    // Searches until nothing is sent, and answers how much was sent in all.
+    pub(crate) fn send_all(&mut self) -> u32
+        requires unused { self.old.room.now ≡ self.old.network.left.now }
+        ensures network { self.new.network ≡ self.old.network }
+        ensures sent { (m : Model) → IsOf m self.old.network → result ≡ least_cut m self.old.network.lots.now self.old.network.left.now }
+        ensures room { (m : Model) → IsOf m self.old.network → self.new.room.now ≡ chosen_room m self.old.network.lots.now self.old.network.left.now }
+    {
+        let mut total = 0;
+        loop {
+            let sent = self.search();
+            if sent == 0 {
+                return total;
+            }
+            total += sent;
         }
-        total += sent;
     }
 }

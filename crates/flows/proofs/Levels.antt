@@ -1,9 +1,10 @@
 -- The search level by level sends along ways, and where it sends nothing the reached households are a shut side.
 -- Assumes nothing.
-use Rattle.std.proofs.Common.{◌≡◌, ℕ, zero, suc, ◌+◌, ◌-◌, ◌<◌, ◌≤◌, Bool, true, false, cond, ◌&&◌, eqb, ltb, List, ◌∷◌, length, get_or, set, Some, None, sym, refl, ap, ◌∙◌, subst, ap₂, inl, inr, arith, length-set, get_or-set_other, get_or-set_same}
+use Rattle.std.proofs.Common.{◌≡◌, ℕ, zero, suc, ◌+◌, ◌-◌, ◌<◌, ◌≤◌, Bool, true, false, cond, ◌&&◌, eqb, ltb, List, [], ◌∷◌, length, get_or, set, Some, None, Option, option_and_then, is_none, sym, refl, ap, ◌∙◌, subst, inl, inr, arith, length-set, get_or-set_other, get_or-set_same}
 use Rattle.std.specs.List.{AllByRecursion}
+use Rattle.std.specs.Option.{option_map_or}
 use Rattle.std.proofs.ByRecursion.{All-weaker}
-use Rattle.std.proofs.lemmas.Bool.{cases_eq, eq-eqb, ne_eqb, cond_both}
+use Rattle.std.proofs.lemmas.Bool.{cases_eq, ne_eqb, eqb-true, ltb-true, and_parts, false≢true, cond_both, eq-eqb}
 use Rattle.std.proofs.lemmas.Bool.Decides.{nat_tests}
 use Rattle.parish.specs.declared.items.Link.{Link}
 use Rattle.flows.specs.declared.items.Arc.{Arc}
@@ -12,32 +13,48 @@ use Rattle.bounds.specs.Sums.{sum_below}
 use Rattle.bounds.specs.Left.{link_at}
 use Rattle.flows.specs.Paths.{tail, head, room_of, least_room, Apart, Leads}
 use Rattle.flows.specs.Rounds.{Way}
-use Rattle.flows.specs.Levels.{no_mark, level_of, arc_to, path_back, leads_on, arc_on, path_before}
+use Rattle.flows.specs.Levels.{mark_of, level_of, is_at, arc_to, path_back, leads_on, arc_on, path_before}
 use Rattle.flows.specs.Trees.{Parent, Tree, Roomy, Covered}
 use Rattle.bounds.proofs.Indexed.{sum_below_change, sum_below_has}
 use Rattle.flows.proofs.Sending.{least_sendable, least_some}
 
 -- ---- an arc that leads on
 
-pub record LeadsOn (ls : List Link) (left room : List ℕ) (marks : List Mark) (depth : ℕ) (a : Arc) : Type 0 where
+pub record LeadsOn (ls : List Link) (left room : List ℕ) (marks : List (Option Mark)) (depth : ℕ) (a : Arc) : Type 0 where
   pub here : level_of marks (tail ls a) ≡ depth
   pub unreached : level_of marks (head ls a) ≡ 0
   pub some : 1 ≤ room_of left room a
 
-module _ (ls : List Link) (left room : List ℕ) (marks : List Mark) (depth : ℕ) where
+-- a mark by its tests
+at_level : (o : Option Mark) (d : ℕ) → option_map_or (λ m. eqb m.level d) o false ≡ true → option_map_or (λ m. m.level) o 0 ≡ d
+at_level None d e = absurd (false≢true e)
+at_level (Some m) d e = eqb-true m.level d e
+
+no_level : (o : Option Mark) → is_none o ≡ true → ◌≡◌ {A = ℕ} (option_map_or (λ m. m.level) o 0) 0
+no_level None e = refl
+no_level (Some m) e = absurd (false≢true e)
+
+not_fresh : (o u : Option Mark) (r d : ℕ) → 1 ≤ d → ((m : Mark) → u ≡ Some m → 1 ≤ m.level)
+    → (option_map_or (λ m. eqb m.level d) o false && (is_none u && ltb 0 r)) ≡ false → option_map_or (λ m. m.level) o 0 ≡ d → 1 ≤ r
+    → 1 ≤ option_map_or (λ m. m.level) u 0
+not_fresh o (Some n) r d deep ranked e h some = ranked n refl
+not_fresh None None r d deep ranked e h some = absurd (omega arith)
+not_fresh (Some m) None r d deep ranked e h some = fresh_not m.level e h
+  where
+    fresh_not : (x : ℕ) → (eqb x d && (true && ltb 0 r)) ≡ false → x ≡ d → 1 ≤ 0
+    fresh_not x e h = grind (arith, nat_tests)
+
+module _ (ls : List Link) (left room : List ℕ) (marks : List (Option Mark)) (depth : ℕ) where
   on_true : (a : Arc) → leads_on ls left room marks depth a ≡ true → LeadsOn ls left room marks depth a
   on_true a e =
-      let p = three (level_of marks (tail ls a)) (level_of marks (head ls a)) (room_of left room a) e in
-      record { here = p.0; unreached = p.1; some = p.2 }
-    where
-      three : (x y r : ℕ) → (eqb x depth && (eqb y 0 && ltb 0 r)) ≡ true → (x ≡ depth) × (y ≡ 0) × (1 ≤ r)
-      three x y r h = (grind (arith, nat_tests), grind (arith, nat_tests), grind (arith, nat_tests))
+      let p = and_parts (is_at marks depth (tail ls a)) (is_none (mark_of marks (head ls a)) && ltb 0 (room_of left room a)) e in
+      let q = and_parts (is_none (mark_of marks (head ls a))) (ltb 0 (room_of left room a)) p.1 in
+      record { here = at_level (mark_of marks (tail ls a)) depth p.0; unreached = no_level (mark_of marks (head ls a)) q.0; some = ltb-true 0 (room_of left room a) q.1 }
 
-  on_false : (a : Arc) → leads_on ls left room marks depth a ≡ false → Covered ls left room marks depth a
-  on_false a e h some = not_fresh (level_of marks (tail ls a)) (level_of marks (head ls a)) (room_of left room a) e h some
-    where
-      not_fresh : (x y r : ℕ) → (eqb x depth && (eqb y 0 && ltb 0 r)) ≡ false → x ≡ depth → 1 ≤ r → 1 ≤ y
-      not_fresh x y r h p q = grind (arith, nat_tests)
+  on_false : 1 ≤ depth → ((v : ℕ) (m : Mark) → mark_of marks v ≡ Some m → 1 ≤ m.level) → (a : Arc) → leads_on ls left room marks depth a ≡ false
+      → Covered ls left room marks depth a
+  on_false deep ranked a e h some =
+      not_fresh (mark_of marks (tail ls a)) (mark_of marks (head ls a)) (room_of left room a) depth deep (ranked (head ls a)) e h some
 
   -- what arc_on gives, by its two tests
   by_tests : (s t : Bool) (x y a : Arc) → cond s (Some x) (cond t (Some y) None) ≡ Some a
@@ -57,13 +74,14 @@ module _ (ls : List Link) (left room : List ℕ) (marks : List Mark) (depth : �
       (record { link = k; onward = true }) (record { link = k; onward = false }) a e (λ b. (b.link ≡ k) × LeadsOn ls left room marks depth b)
       (λ q. (refl, on_true (record { link = k; onward = true }) q)) (λ q. (refl, on_true (record { link = k; onward = false }) q))
 
-  pub arc_none : (k : ℕ) → arc_on ls left room marks depth k ≡ None → (o : Bool) → Covered ls left room marks depth (record { link = k; onward = o })
-  arc_none k e true =
-      on_false (record { link = k; onward = true })
-      (none_tests (leads_on ls left room marks depth (record { link = k; onward = true })) (leads_on ls left room marks depth (record { link = k; onward = false })) (record { link = k; onward = true }) (record { link = k; onward = false }) e).0
-  arc_none k e false =
-      on_false (record { link = k; onward = false })
-      (none_tests (leads_on ls left room marks depth (record { link = k; onward = true })) (leads_on ls left room marks depth (record { link = k; onward = false })) (record { link = k; onward = true }) (record { link = k; onward = false }) e).1
+  module _ (deep : 1 ≤ depth) (ranked : (v : ℕ) (m : Mark) → mark_of marks v ≡ Some m → 1 ≤ m.level) where
+    pub arc_none : (k : ℕ) → arc_on ls left room marks depth k ≡ None → (o : Bool) → Covered ls left room marks depth (record { link = k; onward = o })
+    arc_none k e true =
+        on_false deep ranked (record { link = k; onward = true })
+        (none_tests (leads_on ls left room marks depth (record { link = k; onward = true })) (leads_on ls left room marks depth (record { link = k; onward = false })) (record { link = k; onward = true }) (record { link = k; onward = false }) e).0
+    arc_none k e false =
+        on_false deep ranked (record { link = k; onward = false })
+        (none_tests (leads_on ls left room marks depth (record { link = k; onward = true })) (leads_on ls left room marks depth (record { link = k; onward = false })) (record { link = k; onward = true }) (record { link = k; onward = false }) e).1
 
 -- one end of a link, and both
 one_end : (o : Bool) (x y : ℕ) (P : ℕ → Type 0) → P x → P y → P (cond o x y)
@@ -75,18 +93,18 @@ both_ends false x y P h g = (g, h)
 
 -- ---- how many households are not reached
 
-abbrev pub blank : ℕ → List Mark → ℕ
+abbrev pub blank : ℕ → List (Option Mark) → ℕ
 blank n marks = sum_below n (λ v. cond (eqb (level_of marks v) 0) 1 0)
 
 pub at_most_one : (b : Bool) → cond b 1 0 ≤ 1
 at_most_one true = omega arith
 at_most_one false = omega arith
 
-pub blank_most : (n : ℕ) (marks : List Mark) → blank n marks ≤ n
+pub blank_most : (n : ℕ) (marks : List (Option Mark)) → blank n marks ≤ n
 blank_most zero marks = omega arith
 blank_most (suc n) marks = omega (arith, blank_most n marks, at_most_one (eqb (level_of marks n) 0))
 
-pub blank_none : (n : ℕ) (marks : List Mark) (v : ℕ) → blank n marks ≤ 0 → v < n → 1 ≤ level_of marks v
+pub blank_none : (n : ℕ) (marks : List (Option Mark)) (v : ℕ) → blank n marks ≤ 0 → v < n → 1 ≤ level_of marks v
 blank_none n marks v z lt =
     let le : cond (eqb (level_of marks v) 0) 1 0 ≤ 0 = omega (arith, sum_below_has n v (λ u. cond (eqb (level_of marks u) 0) 1 0) lt) in
     some (level_of marks v) le
@@ -97,15 +115,15 @@ blank_none n marks v z lt =
 -- ---- the tree of arcs
 
 -- a household is reached, at a level up to n
-abbrev Low : List Mark → ℕ → ℕ → Type 0
+abbrev Low : List (Option Mark) → ℕ → ℕ → Type 0
 Low marks n v = (1 ≤ level_of marks v) × (level_of marks v ≤ n)
 
 -- and so are both ends of an arc
-abbrev LowArc : List Link → List Mark → ℕ → Arc → Type 0
+abbrev LowArc : List Link → List (Option Mark) → ℕ → Arc → Type 0
 LowArc ls marks n a = Low marks n (link_at ls a.link).from × Low marks n (link_at ls a.link).to
 
 -- the way back to A
-pub record Back (ls : List Link) (lots : List ℕ) (marks : List Mark) (v d : ℕ) (p : List Arc) : Type 0 where
+pub record Back (ls : List Link) (lots : List ℕ) (marks : List (Option Mark)) (v d : ℕ) (p : List Arc) : Type 0 where
   pub start : ℕ
   pub from_A : get_or lots start 0 ≡ 1
   pub leads : Leads ls p start v
@@ -114,7 +132,7 @@ pub record Back (ls : List Link) (lots : List ℕ) (marks : List Mark) (v d : �
   pub low : AllByRecursion (LowArc ls marks (suc d)) p
 
 -- an arc one of whose ends is not so low has another link than those of a path
-apart_from : (ls : List Link) (marks : List Mark) (n : ℕ) (a : Arc) (p : List Arc) → (Low marks n (head ls a) → ⊥)
+apart_from : (ls : List Link) (marks : List (Option Mark)) (n : ℕ) (a : Arc) (p : List Arc) → (Low marks n (head ls a) → ⊥)
     → AllByRecursion (LowArc ls marks n) p → AllByRecursion (λ b. a.link ≡ b.link → ⊥) p
 apart_from ls marks n a p high low =
     All-weaker (LowArc ls marks n) (λ b. a.link ≡ b.link → ⊥)
@@ -123,33 +141,45 @@ apart_from ls marks n a p high low =
     high (one_end a.onward (link_at ls a.link).to (link_at ls a.link).from (Low marks n) g.1 g.0))
     p low
 
-module _ (ls : List Link) (lots : List ℕ) (marks : List Mark) (t : Tree ls lots marks) where
+-- one arc of the path back, and the rest; or no arc
+pub path_more : (ls : List Link) (marks : List (Option Mark)) (n v : ℕ) (a : Arc) → arc_to marks v ≡ Some a
+    → path_back ls marks (suc n) v ≡ a ∷ path_back ls marks n (tail ls a)
+path_more ls marks n v a e =
+    ap (λ (o : Option Arc). elim o [
+      | None ↦ []
+      | Some b ↦ b ∷ path_back ls marks n (tail ls b)
+    ]) e
+
+module _ (ls : List Link) (lots : List ℕ) (marks : List (Option Mark)) (t : Tree ls lots marks) where
   pub back_to : (d v : ℕ) → level_of marks v ≡ suc d → Back ls lots marks v d (path_back ls marks d v)
   back_to zero v e = record { start = v; from_A = t.first v e; leads = refl; apart = tt; there = tt; low = tt }
   back_to (suc d) v e =
-      let a : Arc = arc_to ls marks v in
       let p : Parent ls marks v d = t.linked v d e in
-      let rest : List Arc = path_back ls marks d (tail ls (arc_to ls marks v)) in
-      let b : Back ls lots marks (tail ls (arc_to ls marks v)) d (path_back ls marks d (tail ls (arc_to ls marks v))) = back_to d (tail ls (arc_to ls marks v)) p.above in
-      let top : level_of marks (head ls (arc_to ls marks v)) ≡ suc (suc d) = ap (level_of marks) p.heads ∙ e in
-      record {
+      let rest : List Arc = path_back ls marks d (tail ls p.arc) in
+      let b : Back ls lots marks (tail ls p.arc) d (path_back ls marks d (tail ls p.arc)) = back_to d (tail ls p.arc) p.above in
+      let top : level_of marks (head ls p.arc) ≡ suc (suc d) = ap (level_of marks) p.heads ∙ e in
+      subst (Back ls lots marks v (suc d)) (sym (path_more ls marks d v p.arc p.is))
+      (record {
         start = b.start;
         from_A = b.from_A;
         leads = (p.heads, b.leads);
-        apart = (apart_from ls marks (suc d) (arc_to ls marks v) rest (λ h. omega arith) b.low, b.apart);
+        apart = (apart_from ls marks (suc d) p.arc rest (λ h. omega arith) b.low, b.apart);
         there = (p.there, b.there);
         low = (
-          both_ends (arc_to ls marks v).onward (link_at ls (get_or marks v no_mark).link).from (link_at ls (get_or marks v no_mark).link).to (Low marks (suc (suc d)))
+          both_ends p.arc.onward (link_at ls p.arc.link).from (link_at ls p.arc.link).to (Low marks (suc (suc d)))
               (omega (arith, p.above), omega (arith, p.above)) (omega arith, omega arith),
           All-weaker (LowArc ls marks (suc d)) (LowArc ls marks (suc (suc d)))
               (λ c h. ((h.0.0, omega arith), (h.1.0, omega arith))) rest b.low,
         );
-      }
+      })
 
   pub back_roomy : (left room : List ℕ) → Roomy ls left room marks → (d v : ℕ) → level_of marks v ≡ suc d
       → AllByRecursion (λ a. 1 ≤ room_of left room a) (path_back ls marks d v)
   back_roomy left room r zero v e = tt
-  back_roomy left room r (suc d) v e = (r v d e, back_roomy left room r d (tail ls (arc_to ls marks v)) (t.linked v d e).above)
+  back_roomy left room r (suc d) v e =
+      let p : Parent ls marks v d = t.linked v d e in
+      subst (AllByRecursion (λ a. 1 ≤ room_of left room a)) (sym (path_more ls marks d v p.arc p.is))
+      (r v d e p.arc p.is, back_roomy left room r d (tail ls p.arc) p.above)
 
   -- an arc from a level to B ends a way
   module _ (left room : List ℕ) (depth : ℕ) (a : Arc) (deep : 1 ≤ depth) (there : a.link < length ls) (on : LeadsOn ls left room marks depth a) where
@@ -177,22 +207,25 @@ module _ (ls : List Link) (lots : List ℕ) (marks : List Mark) (t : Tree ls lot
 
 -- ---- one household more
 
-module _ (ls : List Link) (lots left room : List ℕ) (marks : List Mark) (depth : ℕ) (a : Arc) (deep : 1 ≤ depth) (there : a.link < length ls)
+module _ (ls : List Link) (lots left room : List ℕ) (marks : List (Option Mark)) (depth : ℕ) (a : Arc) (deep : 1 ≤ depth) (there : a.link < length ls)
     (inside : head ls a < length lots) (t : Tree ls lots marks) (on : LeadsOn ls left room marks depth a) where
-  abbrev pub marked : List Mark
-  marked = set marks (head ls a) (record { level = depth + 1; link = a.link })
+  abbrev new_mark : Mark
+  new_mark = record { level = depth + 1; arc = Some a }
 
-  mark_at : get_or marked (head ls a) no_mark ≡ record { level = depth + 1; link = a.link }
-  mark_at = get_or-set_same marks (head ls a) (record { level = depth + 1; link = a.link }) no_mark (omega (arith, t.long))
+  abbrev pub marked : List (Option Mark)
+  marked = set marks (head ls a) (Some new_mark)
 
-  mark_other : (v : ℕ) → (v ≡ head ls a → ⊥) → get_or marked v no_mark ≡ get_or marks v no_mark
-  mark_other v ne = get_or-set_other marks (head ls a) v (record { level = depth + 1; link = a.link }) no_mark ne
+  mark_at : mark_of marked (head ls a) ≡ Some new_mark
+  mark_at = get_or-set_same marks (head ls a) (Some new_mark) None (omega (arith, t.long))
+
+  mark_other : (v : ℕ) → (v ≡ head ls a → ⊥) → mark_of marked v ≡ mark_of marks v
+  mark_other v ne = get_or-set_other marks (head ls a) v (Some new_mark) None ne
 
   pub level_at : level_of marked (head ls a) ≡ depth + 1
-  level_at = ap (λ (m : Mark). m.level) mark_at
+  level_at = ap (λ (o : Option Mark). option_map_or (λ m. m.level) o 0) mark_at
 
   pub level_other : (v : ℕ) → (v ≡ head ls a → ⊥) → level_of marked v ≡ level_of marks v
-  level_other v ne = ap (λ (m : Mark). m.level) (mark_other v ne)
+  level_other v ne = ap (λ (o : Option Mark). option_map_or (λ m. m.level) o 0) (mark_other v ne)
 
   -- what was reached stays as it was
   level_kept : (v : ℕ) → 1 ≤ level_of marks v → level_of marked v ≡ level_of marks v
@@ -207,55 +240,58 @@ module _ (ls : List Link) (lots left room : List ℕ) (marks : List Mark) (depth
       ]
 
   -- the new arc is the one that a path back reads
-  arc_at : arc_to ls marked (head ls a) ≡ a
-  arc_at =
-      let at : (get_or marked (head ls a) no_mark).link ≡ a.link = ap (λ (m : Mark). m.link) mark_at in
-      ap₂ (λ (x : ℕ) (y : Bool). record { link = x; onward = y }) at
-      (ap (λ k. eqb (link_at ls k).to (head ls a)) at ∙ by_way a.onward on.here on.unreached)
-    where
-      by_way : (o : Bool) → level_of marks (cond o (link_at ls a.link).from (link_at ls a.link).to) ≡ depth
-          → level_of marks (cond o (link_at ls a.link).to (link_at ls a.link).from) ≡ 0
-          → eqb (link_at ls a.link).to (cond o (link_at ls a.link).to (link_at ls a.link).from) ≡ o
-      by_way true p q = eq-eqb (link_at ls a.link).to (link_at ls a.link).to refl
-      by_way false p q =
-          ne_eqb (link_at ls a.link).to (link_at ls a.link).from
-          (λ r. let z : level_of marks (link_at ls a.link).to ≡ level_of marks (link_at ls a.link).from = ap (level_of marks) r in omega arith)
+  arc_at : arc_to marked (head ls a) ≡ Some a
+  arc_at = ap (λ (o : Option Mark). option_and_then (λ m. m.arc) o) mark_at
 
-  arc_other : (v : ℕ) → (v ≡ head ls a → ⊥) → arc_to ls marks v ≡ arc_to ls marked v
-  arc_other v ne = ap (λ (m : Mark). record { link = m.link; onward = eqb (link_at ls m.link).to v }) (sym (mark_other v ne))
+  arc_other : (v : ℕ) → (v ≡ head ls a → ⊥) → arc_to marks v ≡ arc_to marked v
+  arc_other v ne = ap (λ (o : Option Mark). option_and_then (λ m. m.arc) o) (sym (mark_other v ne))
+
+  ranked_more : (v : ℕ) (m : Mark) → mark_of marked v ≡ Some m → 1 ≤ m.level
+  ranked_more v m is =
+      let level : level_of marked v ≡ m.level = ap (λ (o : Option Mark). option_map_or (λ n. n.level) o 0) is in
+      elim (cases_eq v (head ls a)) [
+        | inl q ↦ let z : level_of marked v ≡ depth + 1 = ap (level_of marked) q ∙ level_at in omega arith
+        | inr ne ↦ t.ranked v m (sym (mark_other v ne) ∙ is)
+      ]
 
   pub tree_more : Tree ls lots marked
   tree_more =
       record {
-        long = length-set marks (head ls a) (record { level = depth + 1; link = a.link }) ∙ t.long;
+        long = length-set marks (head ls a) (Some new_mark) ∙ t.long;
         first = λ v e. t.first v (old_level v 1 e deep);
         firsts = λ v e. level_kept v (omega (arith, t.firsts v e)) ∙ t.firsts v e;
+        ranked = ranked_more;
+        roots = λ v e.
+            elim (cases_eq v (head ls a)) [
+              | inl q ↦ let z : level_of marked v ≡ depth + 1 = ap (level_of marked) q ∙ level_at in absurd (omega arith)
+              | inr ne ↦ sym (arc_other v ne) ∙ t.roots v (omega (arith, level_other v ne))
+            ];
         linked = λ v d e.
             elim (cases_eq v (head ls a)) [
               | inl q ↦
                   let same : depth ≡ suc d = omega (arith, sym (ap (level_of marked) q ∙ level_at) ∙ e) in
                   subst (λ u. Parent ls marked u d) (sym q)
-                  (record {
-                    there = subst (λ (b : Arc). b.link < length ls) (sym arc_at) there;
-                    heads = ap (head ls) arc_at;
-                    above = ap (λ (b : Arc). level_of marked (tail ls b)) arc_at ∙ level_kept (tail ls a) (omega (arith, on.here)) ∙ on.here ∙ same;
-                  })
+                  (record { arc = a; is = arc_at; there = there; heads = refl; above = level_kept (tail ls a) (omega (arith, on.here)) ∙ on.here ∙ same })
               | inr ne ↦
                   let p : Parent ls marks v d = t.linked v d (sym (level_other v ne) ∙ e) in
                   record {
-                    there = subst (λ (b : Arc). b.link < length ls) (arc_other v ne) p.there;
-                    heads = ap (head ls) (sym (arc_other v ne)) ∙ p.heads;
-                    above = ap (λ (b : Arc). level_of marked (tail ls b)) (sym (arc_other v ne))
-                        ∙ level_kept (tail ls (arc_to ls marks v)) (omega (arith, p.above)) ∙ p.above;
+                    arc = p.arc;
+                    is = sym (arc_other v ne) ∙ p.is;
+                    there = p.there;
+                    heads = p.heads;
+                    above = level_kept (tail ls p.arc) (omega (arith, p.above)) ∙ p.above;
                   }
             ];
       }
 
   pub roomy_more : Roomy ls left room marks → Roomy ls left room marked
-  roomy_more r v d e =
+  roomy_more r v d e b is =
       elim (cases_eq v (head ls a)) [
-        | inl q ↦ subst (λ u. 1 ≤ room_of left room (arc_to ls marked u)) (sym q) (subst (λ b. 1 ≤ room_of left room b) (sym arc_at) on.some)
-        | inr ne ↦ subst (λ b. 1 ≤ room_of left room b) (arc_other v ne) (r v d (sym (level_other v ne) ∙ e))
+        | inl q ↦
+            let found : ◌≡◌ {A = Option Arc} (Some a) (Some b) = sym arc_at ∙ ap (arc_to marked) (sym q) ∙ is in
+            let same : a ≡ b = cc in
+            subst (λ x. 1 ≤ room_of left room x) same on.some
+        | inr ne ↦ r v d (sym (level_other v ne) ∙ e) b (arc_other v ne ∙ is)
       ]
 
   pub covered_more : (e : ℕ) (b : Arc) → e ≤ depth → Covered ls left room marks e b → Covered ls left room marked e b

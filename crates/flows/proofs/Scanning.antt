@@ -1,20 +1,21 @@
 -- One level after another: what holds as the links of a level are taken, and what a search gives. Assumes nothing.
-use Rattle.std.proofs.Common.{◌≡◌, ℕ, zero, suc, ◌+◌, ◌<◌, ◌≤◌, Bool, true, false, cond, ◌&&◌, eqb, ltb, List, [], ◌∷◌, length, get_or, Some, None, sym, refl, ap, ◌∙◌, subst, inl, inr, arith}
+use Rattle.std.proofs.Common.{◌≡◌, ℕ, zero, suc, ◌+◌, ◌<◌, ◌≤◌, Bool, true, false, cond, ◌&&◌, eqb, ltb, List, [], ◌∷◌, length, get_or, Some, None, Option, option_and_then, sym, refl, ap, ◌∙◌, subst, inl, inr, arith}
 use lib.ListN.{length-map}
 use Rattle.std.proofs.lemmas.Bool.{cases_eq, cases_lt, eq-eqb, ne_eqb, eqb-true, lt-ltb, le-ltb, ltb-true, ltb-false, and_parts, both_ways}
 use Rattle.std.proofs.lemmas.Bool.Decides.{nat_tests}
+use Rattle.std.specs.Option.{option_map_or}
 use Rattle.parish.specs.declared.items.Link.{Link}
 use Rattle.flows.specs.declared.items.Arc.{Arc}
 use Rattle.flows.specs.declared.items.Mark.{Mark}
 use Rattle.flows.specs.Paths.{tail, head, room_of, least_room}
 use Rattle.flows.specs.Rounds.{Send, Sends, Shut, Searches}
-use Rattle.flows.specs.Levels.{level_of, level_one, Scan, fresh, goes_on, arc_on, path_before, sent_by, reached_by, by_arc, take_link, take_links, scan_level, search_from, searched, by_levels}
+use Rattle.flows.specs.Levels.{mark_of, level_of, arc_to, level_one, Scan, fresh, goes_on, arc_on, path_before, sent_by, reached_by, by_arc, take_link, take_links, scan_level, search_from, searched, by_levels}
 use Rattle.flows.specs.Trees.{Within, Tree, Roomy, Covered, Ready}
 use Rattle.flows.proofs.Ends.{head_within}
 use Rattle.flows.proofs.Levels.{LeadsOn, arc_some, arc_none, blank, at_most_one, blank_most, blank_none, way_by, way_some, level_at, level_other, tree_more, roomy_more, covered_more, covered_here, blank_more}
 
 -- what holds of a level's links while nothing is sent, up to link k
-pub record Idle (ls : List Link) (left : List ℕ) (depth : ℕ) (before room : List ℕ) (marks : List Mark) (k : ℕ) : Type 0 where
+pub record Idle (ls : List Link) (left : List ℕ) (depth : ℕ) (before room : List ℕ) (marks : List (Option Mark)) (k : ℕ) : Type 0 where
   pub same : room ≡ before
   pub roomy : Roomy ls left room marks
   pub covered : (e : ℕ) → 1 ≤ e → e < depth → (a : Arc) → a.link < length ls → Covered ls left room marks e a
@@ -123,7 +124,7 @@ module _ (ls : List Link) (lots left : List ℕ) (within : Within (length lots) 
     link_taken =
         elim (arc_on ls left s.room s.marks depth k)
         as (λ o. arc_on ls left s.room s.marks depth k ≡ o → Scanning ls lots left depth bound before (by_arc ls lots left depth s o) (suc k)) [
-          | None ↦ λ e. pass (arc_none ls left s.room s.marks depth k e)
+          | None ↦ λ e. pass (arc_none ls left s.room s.marks depth deep h.tree.ranked k e)
           | Some a ↦ λ e.
               let found = arc_some ls left s.room s.marks depth k a e in
               elim (eqb (get_or lots (head ls a) 0) 2)
@@ -135,7 +136,7 @@ module _ (ls : List Link) (lots left : List ℕ) (within : Within (length lots) 
         ] refl
 
   -- ---- one level
-  pub scanning : (depth : ℕ) (room : List ℕ) (marks : List Mark) → Ready ls lots left depth room marks → (k : ℕ) → k ≤ length ls
+  pub scanning : (depth : ℕ) (room : List ℕ) (marks : List (Option Mark)) → Ready ls lots left depth room marks → (k : ℕ) → k ≤ length ls
       → Scanning ls lots left depth (blank (length lots) marks) room (take_links ls lots left depth (fresh room marks) k) k
   scanning depth room marks r zero le =
       record {
@@ -171,7 +172,7 @@ module _ (ls : List Link) (lots left : List ℕ) (within : Within (length lots) 
 
   -- ---- all levels
   -- the reached households are a shut side
-  shut_side : (room : List ℕ) (marks : List Mark) → Tree ls lots marks → ((v : ℕ) → 1 ≤ level_of marks v → get_or lots v 0 ≡ 2 → ⊥)
+  shut_side : (room : List ℕ) (marks : List (Option Mark)) → Tree ls lots marks → ((v : ℕ) → 1 ≤ level_of marks v → get_or lots v 0 ≡ 2 → ⊥)
       → ((a : Arc) → a.link < length ls → 1 ≤ level_of marks (tail ls a) → 1 ≤ room_of left room a → 1 ≤ level_of marks (head ls a)) → Shut ls lots left room
   shut_side room marks t no_goal closed =
       record {
@@ -194,7 +195,7 @@ module _ (ls : List Link) (lots left : List ℕ) (within : Within (length lots) 
     pub sends : Sends ls lots left before list s.sent s.room
     pub ends : s.sent ≡ 0 → Shut ls lots left s.room
 
-  pub found_from : (more depth : ℕ) (room : List ℕ) (marks : List Mark) → Ready ls lots left depth room marks → blank (length lots) marks ≤ more
+  pub found_from : (more depth : ℕ) (room : List ℕ) (marks : List (Option Mark)) → Ready ls lots left depth room marks → blank (length lots) marks ≤ more
       → Found room (search_from ls lots left more depth room marks)
   found_from zero depth room marks r few =
       record {
@@ -239,9 +240,11 @@ module _ (ls : List Link) (lots left : List ℕ) (within : Within (length lots) 
       record {
         deep = omega arith;
         tree = record {
-          long = length-map lots (λ x. record { level = cond (eqb x 1) 1 0; link = 0 });
+          long = length-map lots (λ x. cond (eqb x 1) (Some (record { level = 1; arc = None })) None);
           first = λ v e. is_one (get_or lots v 0) (sym (first_at lots v) ∙ e);
           firsts = λ v e. first_at lots v ∙ ap (λ b. cond b 1 0) (eq-eqb (get_or lots v 0) 1 e);
+          ranked = ranked_at lots;
+          roots = λ v e. no_arc lots v;
           linked = λ v d e. absurd (omega (arith, first_at lots v, at_most_one (eqb (get_or lots v 0) 1)));
         };
         no_goal = λ v some e. let z : ◌≡◌ {A = ℕ} (cond (eqb (get_or lots v 0) 1) 1 0) 0 = ap (λ b. cond b 1 0) (ne_eqb (get_or lots v 0) 1 (λ q. omega arith)) in omega (arith, first_at lots v);
@@ -252,8 +255,30 @@ module _ (ls : List Link) (lots left : List ℕ) (within : Within (length lots) 
     where
       first_at : (xs : List ℕ) (v : ℕ) → level_of (level_one xs) v ≡ cond (eqb (get_or xs v 0) 1) 1 0
       first_at [] v = refl
-      first_at (x ∷ xs) zero = refl
+      first_at (x ∷ xs) zero = by (eqb x 1)
+        where
+          by : (b : Bool) → option_map_or (λ (m : Mark). m.level) (cond b (Some (record { level = 1; arc = None })) None) 0 ≡ cond b 1 0
+          by true = refl
+          by false = refl
       first_at (x ∷ xs) (suc v) = first_at xs v
+
+      ranked_at : (xs : List ℕ) (v : ℕ) (m : Mark) → mark_of (level_one xs) v ≡ Some m → 1 ≤ m.level
+      ranked_at [] v m e = absurd cc
+      ranked_at (x ∷ xs) zero m e = by (eqb x 1) e
+        where
+          by : (b : Bool) → cond b (Some (record { level = 1; arc = None })) None ≡ Some m → 1 ≤ m.level
+          by true e = let same : ◌≡◌ {A = Mark} (record { level = 1; arc = None }) m = cc in subst (λ (n : Mark). 1 ≤ n.level) same (omega arith)
+          by false e = absurd cc
+      ranked_at (x ∷ xs) (suc v) m e = ranked_at xs v m e
+
+      no_arc : (xs : List ℕ) (v : ℕ) → arc_to (level_one xs) v ≡ None
+      no_arc [] v = refl
+      no_arc (x ∷ xs) zero = by (eqb x 1)
+        where
+          by : (b : Bool) → option_and_then (λ (m : Mark). m.arc) (cond b (Some (record { level = 1; arc = None })) None) ≡ None
+          by true = refl
+          by false = refl
+      no_arc (x ∷ xs) (suc v) = no_arc xs v
 
       is_one : (x : ℕ) → ◌≡◌ {A = ℕ} (cond (eqb x 1) 1 0) 1 → x ≡ 1
       is_one x h = grind (arith, nat_tests)

@@ -2,47 +2,54 @@
 -- number order. A link that leads, with room that way, from a household of the level to one not yet reached either ends a
 -- path, where that one is set in B: then as much is sent along the path as it has room for; or it reaches that one, at the
 -- next level. The search goes on to the next level where nothing was sent and some household was reached. Assumes nothing.
-use Rattle.std.specs.Prelude.{ℕ, zero, suc, ◌+◌, ◌-◌, Bool, true, false, cond, ◌&&◌, List, [], ◌∷◌, map, length, Some, None, Option, ◌==◌, nat_lt, slice_index, slice_index_or, slice_set}
+use Rattle.std.specs.Prelude.{ℕ, zero, suc, ◌+◌, ◌-◌, Bool, true, false, cond, ◌&&◌, List, [], ◌∷◌, map, length, Some, None, Option, is_none, option_and_then, ◌==◌, nat_lt, slice_index, slice_index_or, slice_set}
+use Rattle.std.specs.Option.{option_map_or}
 use Rattle.parish.specs.Model.{Model}
 use Rattle.parish.specs.declared.items.Link.{Link}
 use Rattle.flows.specs.declared.items.Arc.{Arc}
 use Rattle.flows.specs.declared.items.Mark.{Mark}
-use Rattle.bounds.specs.Left.{link_at}
 use Rattle.flows.specs.Flows.{Flow}
 use Rattle.flows.specs.Paths.{tail, head, room_of, least_room, send_all, flow_of, amounts}
 use Rattle.flows.specs.Rounds.{Search, last_room}
 
--- the mark of a household that is not reached
-abbrev pub no_mark : Mark
-no_mark = record { level = 0; link = 0 }
+-- the mark of a household, if it is reached
+abbrev pub mark_of : List (Option Mark) → ℕ → Option Mark
+mark_of marks v = slice_index_or marks v None
 
--- the level of a household
-abbrev pub level_of : List Mark → ℕ → ℕ
-level_of marks v = (slice_index_or marks v no_mark).level
+-- its level, or 0 if it is not reached
+abbrev pub level_of : List (Option Mark) → ℕ → ℕ
+level_of marks v = option_map_or (λ m. m.level) (mark_of marks v) 0
 
--- at first the households set in A are reached
-abbrev pub level_one : List ℕ → List Mark
-level_one lots = map (λ x. record { level = cond (x == 1) 1 0; link = 0 }) lots
+-- whether it was reached at a level
+abbrev pub is_at : List (Option Mark) → ℕ → ℕ → Bool
+is_at marks depth v = option_map_or (λ m. m.level == depth) (mark_of marks v) false
 
--- the arc by which a household was reached
-abbrev pub arc_to : List Link → List Mark → ℕ → Arc
-arc_to ls marks v =
-    record { link = (slice_index_or marks v no_mark).link; onward = ((link_at ls (slice_index_or marks v no_mark).link).to == v) }
+-- at first the households set in A are reached, by no arc
+abbrev pub level_one : List ℕ → List (Option Mark)
+level_one lots = map (λ x. cond (x == 1) (Some (record { level = 1; arc = None })) None) lots
+
+-- the arc by which a household was reached, if by one
+abbrev pub arc_to : List (Option Mark) → ℕ → Option Arc
+arc_to marks v = option_and_then (λ m. m.arc) (mark_of marks v)
 
 -- the path to a household, back through so many arcs
-abbrev pub path_back : List Link → List Mark → ℕ → ℕ → List Arc
+abbrev pub path_back : List Link → List (Option Mark) → ℕ → ℕ → List Arc
 path_back ls marks zero v = []
-path_back ls marks (suc n) v = arc_to ls marks v ∷ path_back ls marks n (tail ls (arc_to ls marks v))
+path_back ls marks (suc n) v =
+    elim (arc_to marks v) [
+      | None ↦ []
+      | Some a ↦ a ∷ path_back ls marks n (tail ls a)
+    ]
 
 -- how far a scan has come: whether a household was reached, how much was sent, the room and the marks
 pub record Scan : Type 0 where
   pub grew : Bool
   pub sent : ℕ
   pub room : List ℕ
-  pub marks : List Mark
+  pub marks : List (Option Mark)
 
 -- nothing scanned
-abbrev pub fresh : List ℕ → List Mark → Scan
+abbrev pub fresh : List ℕ → List (Option Mark) → Scan
 fresh room marks = record { grew = false; sent = 0; room = room; marks = marks }
 
 -- nothing was sent, and some household was reached
@@ -50,18 +57,18 @@ abbrev pub goes_on : Scan → Bool
 goes_on s = s.grew && s.sent == 0
 
 -- an arc leads, with room, from a household of a level to one not reached
-abbrev pub leads_on : List Link → List ℕ → List ℕ → List Mark → ℕ → Arc → Bool
+abbrev pub leads_on : List Link → List ℕ → List ℕ → List (Option Mark) → ℕ → Arc → Bool
 leads_on ls left room marks depth a =
-    (level_of marks (tail ls a) == depth) && (level_of marks (head ls a) == 0 && nat_lt 0 (room_of left room a))
+    is_at marks depth (tail ls a) && (is_none (mark_of marks (head ls a)) && nat_lt 0 (room_of left room a))
 
 -- the arc by which link k does so, if one does
-abbrev pub arc_on : List Link → List ℕ → List ℕ → List Mark → ℕ → ℕ → Option Arc
+abbrev pub arc_on : List Link → List ℕ → List ℕ → List (Option Mark) → ℕ → ℕ → Option Arc
 arc_on ls left room marks depth k =
     cond (leads_on ls left room marks depth (record { link = k; onward = true })) (Some (record { link = k; onward = true }))
     (cond (leads_on ls left room marks depth (record { link = k; onward = false })) (Some (record { link = k; onward = false })) None)
 
 -- the path that an arc from a level goes on from
-abbrev pub path_before : List Link → List Mark → ℕ → Arc → List Arc
+abbrev pub path_before : List Link → List (Option Mark) → ℕ → Arc → List Arc
 path_before ls marks depth a = path_back ls marks (depth - 1) (tail ls a)
 
 -- an arc from a level ends a path: as much is sent as the path has room for
@@ -78,7 +85,7 @@ reached_by ls depth s a =
       grew = true;
       sent = s.sent;
       room = s.room;
-      marks = slice_set s.marks (head ls a) (record { level = depth + 1; link = a.link });
+      marks = slice_set s.marks (head ls a) (Some (record { level = depth + 1; arc = Some a }));
     }
 
 module _ (ls : List Link) (lots left : List ℕ) where
@@ -97,11 +104,11 @@ module _ (ls : List Link) (lots left : List ℕ) where
   take_links depth s (suc k) = take_link depth (take_links depth s k) k
 
   -- a level is scanned
-  abbrev pub scan_level : ℕ → List ℕ → List Mark → Scan
+  abbrev pub scan_level : ℕ → List ℕ → List (Option Mark) → Scan
   scan_level depth room marks = take_links depth (fresh room marks) (length ls)
 
   -- level after level, so many at most
-  abbrev pub search_from : ℕ → ℕ → List ℕ → List Mark → Scan
+  abbrev pub search_from : ℕ → ℕ → List ℕ → List (Option Mark) → Scan
   search_from zero depth room marks = fresh room marks
   search_from (suc more) depth room marks =
       let s : Scan = scan_level depth room marks in

@@ -1,19 +1,19 @@
 -- What holds of the marks of a search before each level is scanned. Assumes nothing.
-use Rattle.std.specs.Prelude.{◌≡◌, ℕ, suc, ◌<◌, ◌≤◌, List, length, ◌≢◌, slice_index, slice_index_or}
+use Rattle.std.specs.Prelude.{◌≡◌, ℕ, suc, ◌<◌, ◌≤◌, List, length, ◌≢◌, Some, None, Option, slice_index}
 use Rattle.parish.specs.Limits.{most_households, most_links, strongest_held}
 use Rattle.parish.specs.declared.items.Link.{Link}
 use Rattle.flows.specs.declared.items.Arc.{Arc}
 use Rattle.flows.specs.declared.items.Mark.{Mark}
 use Rattle.bounds.specs.Left.{link_at}
 use Rattle.flows.specs.Paths.{tail, head, room_of}
-use Rattle.flows.specs.Levels.{no_mark, level_of, arc_to}
+use Rattle.flows.specs.Levels.{mark_of, level_of, arc_to}
 
 -- both ends of each link are among n households
 abbrev pub Within : ℕ → List Link → Type 0
 Within n ls = (k : ℕ) → k < length ls → ((link_at ls k).from < n) × ((link_at ls k).to < n)
 
 -- the lists that a search among n households reads fit one another and the limits of a parish
-pub record Network (ls : List Link) (left : List ℕ) (n : ℕ) : Type 0 where
+pub record IsNetwork (ls : List Link) (left : List ℕ) (n : ℕ) : Type 0 where
   pub ends : Within n ls
   pub few : n ≤ most_households
   pub short : length ls ≤ most_links
@@ -21,28 +21,32 @@ pub record Network (ls : List Link) (left : List ℕ) (n : ℕ) : Type 0 where
   pub small : (k : ℕ) → slice_index left k ≤ strongest_held
 
 -- a household at level d + 2 was reached by an arc from one at level d + 1
-pub record Parent (ls : List Link) (marks : List Mark) (v d : ℕ) : Type 0 where
-  pub there : (slice_index_or marks v no_mark).link < length ls
-  pub heads : head ls (arc_to ls marks v) ≡ v
-  pub above : level_of marks (tail ls (arc_to ls marks v)) ≡ suc d
+pub record Parent (ls : List Link) (marks : List (Option Mark)) (v d : ℕ) : Type 0 where
+  pub arc : Arc
+  pub is : arc_to marks v ≡ Some arc
+  pub there : arc.link < length ls
+  pub heads : head ls arc ≡ v
+  pub above : level_of marks (tail ls arc) ≡ suc d
 
--- level 1 has just the households set in A, and each later one was reached from the level before it
-pub record Tree (ls : List Link) (lots : List ℕ) (marks : List Mark) : Type 0 where
+-- levels are counted from 1: the first has just the households set in A, and each later one was reached from the level before it
+pub record Tree (ls : List Link) (lots : List ℕ) (marks : List (Option Mark)) : Type 0 where
   pub long : length marks ≡ length lots
   pub first : (v : ℕ) → level_of marks v ≡ 1 → slice_index lots v ≡ 1
   pub firsts : (v : ℕ) → slice_index lots v ≡ 1 → level_of marks v ≡ 1
+  pub ranked : (v : ℕ) (m : Mark) → mark_of marks v ≡ Some m → 1 ≤ m.level
+  pub roots : (v : ℕ) → level_of marks v ≤ 1 → arc_to marks v ≡ None
   pub linked : (v d : ℕ) → level_of marks v ≡ suc (suc d) → Parent ls marks v d
 
 -- each arc by which a household was reached has room
-abbrev pub Roomy : List Link → List ℕ → List ℕ → List Mark → Type 0
-Roomy ls left room marks = (v d : ℕ) → level_of marks v ≡ suc (suc d) → 1 ≤ room_of left room (arc_to ls marks v)
+abbrev pub Roomy : List Link → List ℕ → List ℕ → List (Option Mark) → Type 0
+Roomy ls left room marks = (v d : ℕ) → level_of marks v ≡ suc (suc d) → (a : Arc) → arc_to marks v ≡ Some a → 1 ≤ room_of left room a
 
 -- where an arc with room comes from a level, the household that it leads to is reached
-abbrev pub Covered : List Link → List ℕ → List ℕ → List Mark → ℕ → Arc → Type 0
+abbrev pub Covered : List Link → List ℕ → List ℕ → List (Option Mark) → ℕ → Arc → Type 0
 Covered ls left room marks e a = level_of marks (tail ls a) ≡ e → 1 ≤ room_of left room a → 1 ≤ level_of marks (head ls a)
 
 -- before a level is scanned, all levels before it are, and no household of B is reached
-pub record Ready (ls : List Link) (lots left : List ℕ) (depth : ℕ) (room : List ℕ) (marks : List Mark) : Type 0 where
+pub record Ready (ls : List Link) (lots left : List ℕ) (depth : ℕ) (room : List ℕ) (marks : List (Option Mark)) : Type 0 where
   pub deep : 1 ≤ depth
   pub tree : Tree ls lots marks
   pub no_goal : (v : ℕ) → 1 ≤ level_of marks v → slice_index lots v ≢ 2

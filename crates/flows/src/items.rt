@@ -7,9 +7,9 @@ pub struct Arc {
     pub onward: bool,
 }
 
-// How a search reached a household: at which level, 0 where it did not, and by which link.
+// How a search reached a household: at which level, counted from 1, and by which arc; those of level 1 by none.
 #[derive(Clone, Copy)]
 pub struct Mark {
     pub level: usize,
-    pub link: usize,
+    pub arc: Option<Arc>,
 }

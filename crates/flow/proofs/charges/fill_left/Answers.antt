@@ -1,27 +1,13 @@
-use Rattle.std.proofs.Common.{get_or, sym, arith, rules}
-use Rattle.bounds.proofs.Filling.{fill_step, filled}
-use Rattle.bounds.specs.Left.{left_of}
-use Rattle.bounds.proofs.Left.{length_left, left_at_link, strength_at}
+use Rattle.std.proofs.Common.{◌-◌, get_or, arith}
+use Rattle.std.proofs.lemmas.List.FromFn.{fill_by_all}
+use Rattle.bounds.specs.Left.{link_at}
+use Rattle.bounds.proofs.Left.{strength_at}
 use Rattle.flow.proofs.charges.fill_left.Goals as goal
 
-pub overflow_sub-rest : goal.overflow_sub-rest
-overflow_sub-rest c = omega (arith, c.requires.within c.loop-k.k, strength_at c.args.links.now c.loop-k.k c.loop-k-test.true)
-
-pub loop-k-preserved : goal.loop-k-preserved
-loop-k-preserved c =
-    let ls = c.args.links.now in
-    let cs = c.args.charges.now in
-    let k = c.loop-k.k in
-    let e = sym (left_at_link ls cs k c.loop-k-test.true) in (
-      fill_step 0 c.loop-k.left (λ j. get_or (left_of ls cs) j 0) k _ (search rules) c.loop-k.invariant.0 e,
-      fill_step 0 c.loop-k.room (λ j. get_or (left_of ls cs) j 0) k _ (search rules) c.loop-k.invariant.1 e,
-    )
+pub overflow_sub-left : goal.overflow_sub-left
+overflow_sub-left c = omega (arith, c.requires.within c.loop-k.k, strength_at c.args.links.now c.loop-k.k c.loop-k-test.true)
 
 pub returns : goal.returns
 returns c =
-    let ls = c.args.links.now in
-    let cs = c.args.charges.now in
-    record {
-      left = filled 0 c.loop-k.left (left_of ls cs) c.loop-k.k (omega (arith, length_left ls cs, c.requires.left_fit)) (search rules) c.loop-k.invariant.0;
-      room = filled 0 c.loop-k.room (left_of ls cs) c.loop-k.k (omega (arith, length_left ls cs, c.requires.room_fit)) (search rules) c.loop-k.invariant.1;
-    }
+    fill_by_all (λ k. (link_at c.args.links.now k).strength - get_or c.args.charges.now k 0) c.loop-k.left _ 0 (omega (arith, c.requires.left_fit))
+    (λ j lt. c.loop-k.invariant j (omega arith))

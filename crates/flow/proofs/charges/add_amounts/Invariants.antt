@@ -1,9 +1,0 @@
-use Rattle.std.proofs.Common.{◌≡◌, ℕ, ◌<◌, ◌≤◌, get_or}
-use Rattle.bounds.specs.Adding.{added}
-use Rattle.flows.specs.Paths.{amounts}
-use Rattle.flow.proofs.charges.add_amounts.Given as goal
-
-abbrev pub invariant-loop-k : goal.invariant-loop-k
-invariant-loop-k l =
-    ((j : ℕ) → j < l.k → get_or l.charges j 0 ≡ get_or (added l.initial.charges (amounts l.left l.room)) j 0)
-    × ((j : ℕ) → l.k ≤ j → get_or l.charges j 0 ≡ get_or l.initial.charges j 0)
