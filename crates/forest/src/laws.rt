@@ -3,22 +3,16 @@ ghost use Rattle.forest.specs.Laws.{PackingLaws, SamePacking, PackingBounds};
 
 // The trees are those that growing gives, the number added is the fewest of them that reach the target, and each link of a
 // tree is charged 1 more.
-pub fn packing_laws_hold() -> u8
+pub fn packing_laws_hold()
     ensures { PackingLaws }
-{
-    0
-}
+{}
 
 // What is added depends on parish, cap, lots and the charges below alone.
-pub fn same_packing_holds() -> u8
+pub fn same_packing_holds()
     ensures { SamePacking }
-{
-    0
-}
+{}
 
 // Over any lower bound the layer is a lower bound.
-pub fn packing_bounds_holds() -> u8
+pub fn packing_bounds_holds()
     ensures { PackingBounds }
-{
-    0
-}
+{}

@@ -5,45 +5,33 @@ use bounds::LowerBound;
 
 // The answer is the one lawful bisection below the ceiling such that no lawful one costs less, and none that comes before
 // it costs as little. There is none exactly when no lawful bisection costs less than the ceiling.
-pub fn answer_law_holds() -> u8
+pub fn answer_law_holds()
     ensures { AnswerLaw }
-{
-    0
-}
+{}
 
 // 'Comes before' is a strict total order on the bisections that keep the pins.
-pub fn order_law_holds() -> u8
+pub fn order_law_holds()
     ensures { OrderLaw }
-{
-    0
-}
+{}
 
 // A node stands exactly when every node above it keeps the limit, and has a lower bound below the ceiling and below the
 // cost of every lawful bisection before it.
-pub fn standing_law_holds() -> u8
+pub fn standing_law_holds()
     ensures { StandingLaw }
-{
-    0
-}
+{}
 
 // The empty node always stands, and comes first.
-pub fn empty_node_law_holds() -> u8
+pub fn empty_node_law_holds()
     ensures { EmptyNodeLaw }
-{
-    0
-}
+{}
 
 // A depth-first walk that prunes by the best leaf it has itself seen takes exactly the standing nodes, in order, and ends
 // with the answer: over every number that keeps the law of lower bounds.
-pub fn pruned_search_law_holds() -> u8
+pub fn pruned_search_law_holds()
     ensures { PrunedSearchLaw }
-{
-    0
-}
+{}
 
 // So over every lower bound.
-pub fn prunes_rightly<B: LowerBound>(bound: &B) -> u8
+pub fn prunes_rightly<B: LowerBound>(bound: &B)
     ensures { PrunesRightly (B.meaning bound.now).number }
-{
-    0
-}
+{}
