@@ -1,23 +1,9 @@
 // Making a parish, and asking a bound about it.
 use bounds::LowerBound;
-use parish::{Lot, MOST_LINKS, Parish, Refusal};
+use parish::{MOST_LINKS, Parish, Refusal};
 use std::alloc::Global;
 use std::process::Abort;
 use std::test::Fail;
-
-// The worked parish: four households, the first pinned to A, and a ring of links.
-pub(super) fn worked(heap: Global) -> Result<Parish, Fail> {
-    let mut parish = Parish::new(heap)?;
-    parish.add_household(3, Some(Lot::A))?;
-    parish.add_household(2, None)?;
-    parish.add_household(2, None)?;
-    parish.add_household(3, None)?;
-    parish.add_link(0, 1, 4)?;
-    parish.add_link(1, 2, 1)?;
-    parish.add_link(2, 3, 4)?;
-    parish.add_link(0, 3, 1)?;
-    Ok(parish)
-}
 
 // A parish of so many households, and of links given by their ends and strengths.
 pub(super) fn parish_of(

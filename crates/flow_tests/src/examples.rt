@@ -1,6 +1,7 @@
 // What the layer adds, on small parishes.
-use super::asking::{parish_of, tells, worked};
+use super::asking::{parish_of, tells};
 use bounds::{Bare, Decided};
+use cases::worked_parish;
 use flow::Flow;
 use std::test::Fail;
 
@@ -8,7 +9,7 @@ use std::test::Fail;
 // and a second layer finds no way left.
 #[test]
 fn stacks(rt: HostRuntime) -> Result<(), Fail> {
-    let parish = worked(rt.alloc())?;
+    let parish = worked_parish(rt.alloc())?;
     let lots = [1, 0, 0, 2];
     tells(&rt, &Bare, &parish, &lots, 0, &[0, 0, 0, 0])?;
     tells(&rt, &Decided, &parish, &lots, 1, &[0, 0, 0, 1])?;
@@ -21,7 +22,7 @@ fn stacks(rt: HostRuntime) -> Result<(), Fail> {
 // Where no household is set, or none in one of the lots, nothing flows.
 #[test]
 fn one_group_empty(rt: HostRuntime) -> Result<(), Fail> {
-    let parish = worked(rt.alloc())?;
+    let parish = worked_parish(rt.alloc())?;
     let none = [0; 4];
     tells(&rt, &Flow(Bare), &parish, &[0, 0, 0, 0], 0, &none)?;
     tells(&rt, &Flow(Bare), &parish, &[1, 0, 1, 0], 0, &none)?;
@@ -34,7 +35,7 @@ fn one_group_empty(rt: HostRuntime) -> Result<(), Fail> {
 // Where every household is set, what flows is what is decided.
 #[test]
 fn everything_set(rt: HostRuntime) -> Result<(), Fail> {
-    let parish = worked(rt.alloc())?;
+    let parish = worked_parish(rt.alloc())?;
     tells(&rt, &Flow(Bare), &parish, &[1, 1, 2, 2], 2, &[0, 1, 0, 1])?;
     tells(
         &rt,

@@ -1,6 +1,7 @@
 // What the layer refuses, as every bound does, and the parish of no household, which it does not.
-use super::asking::{parish_of, refuses, tells, worked};
+use super::asking::{parish_of, refuses, tells};
 use bounds::{Bare, Decided, LowerBound};
+use cases::worked_parish;
 use flow::Flow;
 use parish::Parish;
 use std::process::Abort;
@@ -8,7 +9,7 @@ use std::test::Fail;
 
 #[test]
 fn wrong_lists(rt: HostRuntime) -> Result<(), Fail> {
-    let parish = worked(rt.alloc())?;
+    let parish = worked_parish(rt.alloc())?;
     refuses_wrong_lists(&rt, &Flow(Bare), &parish)?;
     refuses_wrong_lists(&rt, &Flow(Decided), &parish)?;
     refuses_wrong_lists(&rt, &Flow(Flow(Decided)), &parish)
