@@ -2,7 +2,7 @@
 ghost use Rattle.bisection.specs.Meanings.{bare};
 ghost use Rattle.bounds.specs.Charges.{bare_bounds};
 
-use super::lists::lists_fit;
+use super::lists::check_lists;
 use super::lower::LowerBound;
 use parish::{Parish, Refusal};
 
@@ -22,9 +22,7 @@ impl LowerBound for Bare {
         lots: &[u8],
         charges: &mut [u32],
     ) -> Result<u32, Refusal> {
-        if !lists_fit(parish, lots, charges) {
-            return Err(Refusal::WrongList);
-        }
+        check_lists(parish, lots, charges)?;
         charges.fill(0);
         Ok(0)
     }

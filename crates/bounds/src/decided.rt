@@ -3,7 +3,7 @@ ghost use Rattle.std.specs.Prelude.{◌≡◌, ◌<◌, length};
 ghost use Rattle.bisection.specs.Meanings.{decided, decided_charge};
 ghost use Rattle.bounds.specs.Charges.{decided_bounds};
 
-use super::lists::lists_fit;
+use super::lists::check_lists;
 use super::lower::LowerBound;
 use bisection::UNSET;
 use parish::{Link, Parish, Refusal};
@@ -38,9 +38,7 @@ impl LowerBound for Decided {
         lots: &[u8],
         charges: &mut [u32],
     ) -> Result<u32, Refusal> {
-        if !lists_fit(parish, lots, charges) {
-            return Err(Refusal::WrongList);
-        }
+        check_lists(parish, lots, charges)?;
         let links = parish.links();
         let mut sum = 0;
         // Written by index: of what is written through a zipped `iter_mut` the prover knows nothing.

@@ -9,7 +9,7 @@ zeros (l ∷ ls) = ap (λ r. 0 ∷ r) (zeros ls)
 
 pub returns : goal.returns
 returns c =
-    let fit = c.if-not-lists_fit.ensures in
+    let fit = c.in_ok-check_lists.ensures in
     record {
       fit = fit;
       says = refl;
