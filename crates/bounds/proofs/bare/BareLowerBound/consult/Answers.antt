@@ -1,11 +1,7 @@
-use Rattle.std.proofs.Common.{◌≡◌, ℕ, List, [], ◌∷◌, map, length, replicate, refl, ap, ◌∙◌}
+use Rattle.std.proofs.Common.{refl, sym, ◌∙◌}
+use Rattle.std.proofs.lemmas.Simd.{splat_is_map}
 use Rattle.parish.specs.View.{view}
-use Rattle.parish.specs.declared.items.Link.{Link}
 use Rattle.bounds.proofs.bare.BareLowerBound.consult.Goals as goal
-
-zeros : (ls : List Link) → replicate {A = ℕ} (length ls) 0 ≡ map (λ _. 0) ls
-zeros [] = refl
-zeros (l ∷ ls) = ap (λ r. 0 ∷ r) (zeros ls)
 
 pub returns : goal.returns
 returns c =
@@ -13,5 +9,5 @@ returns c =
     record {
       fit = fit;
       says = refl;
-      fills = c.fill.ensures.after (λ y e. e) ∙ ap (λ n. replicate {A = ℕ} n 0) fit.charges_fit ∙ zeros (view c.args.parish.now).links;
+      fills = c.fill.ensures.after (λ y e. e) ∙ splat_is_map (view c.args.parish.now).links _ 0 (sym fit.charges_fit);
     }
