@@ -40,28 +40,28 @@ pub(crate) fn read(heap: Global, line: &str) -> anyhow::Result<Question<'_>> {
 }
 
 fn numbers_of(heap: Global, text: &str) -> anyhow::Result<Vec<u32>> {
-    let mut numbers = Vec::new(heap);
-    for word in text.split_ascii_whitespace() {
-        numbers.push(word.parse::<u32>()?)?;
-    }
-    Ok(numbers)
+    text.split_ascii_whitespace()
+        .map(number_of)
+        .try_collect(heap)
+}
+
+fn number_of(word: &str) -> anyhow::Result<u32> {
+    Ok(word.parse::<u32>()?)
 }
 
 fn lots_of(heap: Global, text: &str) -> anyhow::Result<Vec<u8>> {
-    let mut lots = Vec::new(heap);
-    for digit in text.chars() {
-        let lot = digit.to_digit(10).context("a lot is not a digit")?;
-        lots.push(lot as u8)?;
-    }
-    Ok(lots)
+    text.chars().map(lot_of).try_collect(heap)
+}
+
+fn lot_of(digit: char) -> anyhow::Result<u8> {
+    let lot = digit.to_digit(10).context("a lot is not a digit")?;
+    Ok(lot as u8)
 }
 
 fn links_of(heap: Global, text: &str) -> anyhow::Result<Vec<Link>> {
-    let mut links = Vec::new(heap);
-    for part in text.split_terminator(',') {
-        links.push(link_of(heap, part)?)?;
-    }
-    Ok(links)
+    text.split_terminator(',')
+        .map(|part| link_of(heap, part))
+        .try_collect(heap)
 }
 
 fn link_of(heap: Global, text: &str) -> anyhow::Result<Link> {
