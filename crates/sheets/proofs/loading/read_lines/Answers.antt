@@ -1,4 +1,4 @@
-use Rattle.std.proofs.Common.{◌+◌, ◌∙◌, arith}
+use Rattle.std.proofs.Common.{arith}
 use Rattle.std.proofs.lemmas.Grind.{common_steps}
 use Rattle.spelling.proofs.Reading.{line_unspelt, line_refused, line_added}
 use Rattle.sheets.proofs.loading.read_lines.Goals as goal
