@@ -48,8 +48,8 @@ fn read_sheet<K: SheetKind>(bytes: &[u8], parish: &mut Parish) -> Result<(), Loa
     read_lines::<K>(&mut reader, parish)
 }
 
-// Reads both sheets into a parish that is emptied first. The sheets go on to their two kinds one by one, so that a struct
-// of both would only be made and taken apart.
+// Reads both sheets into a parish that is emptied first.
+// Two slices, and no struct of both: each goes on alone to the reading of its kind.
 fn read_both(parish: &mut Parish, households: &[u8], links: &[u8]) -> Result<(), LoadFault>
     ensures { Read (loaded households.now links.now) (view parish.new) result }
 {
