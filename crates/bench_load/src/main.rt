@@ -36,7 +36,7 @@ fn load(
         (λ f. Faulty households.now links.now f) }
 {
     let mut counts = sheets::read(parish, spare, households, links)?;
-    for _i in 1..LOADS {
+    for _ in 1..LOADS {
         counts = sheets::read(parish, spare, households, links)?;
     }
     Ok(counts)

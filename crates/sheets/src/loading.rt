@@ -41,17 +41,15 @@ fn read_sheet<K: SheetKind>(bytes: &[u8], parish: &mut Parish) -> Result<(), Loa
     ensures { Read (sheet_read K.SheetKind.kind (view parish.old) bytes.now) (view parish.new) result }
 {
     let mut reader = Reader::new(bytes);
-    let first = Place {
-        sheet: K::sheet(),
-        line: 1,
-    };
     if reader.part(b'\n') != Some(K::names_line()) {
-        return Err(LineFault::WrongNames(first).into());
+        let sheet = K::sheet();
+        return Err(LineFault::WrongNames(Place { sheet, line: 1 }).into());
     }
     read_lines::<K>(&mut reader, parish)
 }
 
 // Reads both sheets into a parish that is emptied first.
+// Two slices, and no struct of both: each goes on alone to the reading of its kind.
 fn read_both(parish: &mut Parish, households: &[u8], links: &[u8]) -> Result<(), LoadFault>
     ensures { Read (loaded households.now links.now) (view parish.new) result }
 {

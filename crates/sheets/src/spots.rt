@@ -3,23 +3,16 @@ ghost use Rattle.std.specs.Prelude.{◌≡◌};
 ghost use Rattle.spelling.specs.Pieces.{pieces, numbered};
 ghost use Rattle.sheets.specs.Spots.{spot_of};
 
-use super::reader::Reader;
 use faults::{LoadFault, Sheet};
 
 // The part of a number, counted from 1, between bytes `end`; an empty part where there is none.
 fn numbered_part(bytes: &[u8], end: u8, number: usize) -> &[u8]
     ensures { result.now ≡ numbered number (pieces end bytes.now) }
 {
-    if number == 0 {
+    let Some(before) = number.checked_sub(1) else {
         return &[];
-    }
-    let mut reader = Reader::new(bytes);
-    for _i in 1..number {
-        if reader.part(end).is_none() {
-            return &[];
-        }
-    }
-    reader.part(end).unwrap_or(reader.rest())
+    };
+    bytes.split(|byte| *byte == end).nth(before).unwrap_or(&[])
 }
 
 // The faulty field, or the line without its byte 10 where no field is to blame, from the sheet that the fault names; an

@@ -1,9 +1,12 @@
 -- Cutting bytes at a separator, and putting the pieces together again. Assumes nothing.
-use Rattle.std.proofs.Common.{◌≡◌, ◌≢◌, ℕ, ◌+◌, ◌-◌, ◌<◌, ◌≤◌, true, false, cond, ◌||◌, eqb, List, [], ◌∷◌, ◌++◌, length, get_or, take, drop, sym, refl, ap, ◌∙◌, subst, arith, eq-eqb, ne_eqb, eqb-true}
+use Rattle.std.proofs.Common.{◌≡◌, ◌≢◌, ℕ, Option, Some, None, Bor, ◌+◌, ◌-◌, ◌<◌, ◌≤◌, true, false, cond, ◌||◌, eqb, List, [], ◌∷◌, ◌++◌, length, take, drop, sym, refl, ap, ◌∙◌, subst, arith, eq-eqb, ne_eqb, eqb-true}
 use borrow.Author.Tests.{eqb-false, clash}
 use Rattle.std.proofs.ByRecursion.{All-from_get_or}
-use Rattle.std.proofs.lemmas.List.{drop-drop, drop_more, get_or_past, get_or-take, length-drop, length-take-le, take-append-drop}
-use Rattle.std.specs.List.{AllByRecursion, AllWithin, HoldsAt, list_any}
+use Rattle.std.proofs.lemmas.List.{drop-drop, drop_more, get_or-take, length-drop, length-take-le, take-append-drop}
+use Rattle.std.proofs.lemmas.Grind.{common_steps}
+use Rattle.std.proofs.lemmas.Option.{unwrap_or-slice_get}
+use Rattle.std.specs.Option.{option_map, unwrap_or}
+use Rattle.std.specs.List.{AllByRecursion, AllWithin, HoldsAt, list_any, slice_split, slice_get, onto_first}
 use Rattle.spelling.specs.Pieces.{onto, pieces, glued, Lacks, PiecesAreTheCut, numbered}
 
 -- there is always a first piece
@@ -135,3 +138,20 @@ part_found b n place bytes unread rest view e first =
 pub part_none : (b : ℕ) (unread rest : List ℕ) → rest ≡ unread → AllWithin (λ x. x ≢ b) rest 0 (length rest) → pieces b unread ≡ unread ∷ []
 part_none b unread rest e ne =
     subst (λ s. pieces b s ≡ s ∷ []) e (pieces_whole b rest (All-from_get_or (λ x. x ≢ b) rest 0 (λ k lt. ne k 0 (omega arith) lt)))
+
+-- the pieces are those that the library cuts
+onto_first_piece : (x : ℕ) (ps : List (List ℕ)) → onto x ps ≡ onto_first x ps
+onto_first_piece x [] = refl
+onto_first_piece x (p ∷ ps) = refl
+
+pieces_split : (b : ℕ) (s : List ℕ) → pieces b s ≡ slice_split (λ x. eqb x b) s
+pieces_split b [] = refl
+pieces_split b (x ∷ xs) =
+    ap (λ ps. cond (eqb x b) ([] ∷ ps) (onto x ps)) (pieces_split b xs)
+    ∙ ap (cond (eqb x b) ([] ∷ slice_split (λ y. eqb y b) xs)) (onto_first_piece x (slice_split (λ y. eqb y b) xs))
+
+-- the piece of a number, where the library takes it
+pub numbered_split : (b n k : ℕ) (s : List ℕ) (r : Option (Bor (List ℕ))) (none : Bor (List ℕ)) → none.now ≡ [] → n ≡ k + 1
+    → option_map (λ x. x.now) r ≡ slice_get (slice_split (λ x. eqb x b) s) k → (unwrap_or r none).now ≡ numbered n (pieces b s)
+numbered_split b n k s None none empty at e = let split = pieces_split b s in let piece = unwrap_or-slice_get (pieces b s) k [] in grind (arith, common_steps)
+numbered_split b n k s (Some part) none empty at e = let split = pieces_split b s in let piece = unwrap_or-slice_get (pieces b s) k [] in grind (arith, common_steps)

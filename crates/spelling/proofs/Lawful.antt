@@ -1,26 +1,21 @@
 -- Both kinds of sheet are lawful. Assumes nothing.
-use Rattle.std.proofs.Common.{◌≡◌, ℕ, ◌^◌, ◌<◌, ◌≤◌, Bool, true, false, cond, not, ◌&&◌, ◌||◌, eqb, ltb, leb, List, [], ◌∷◌, ◌++◌, map, length, get_or, is_some, Some, None, Err, codes, decimal, Option, unwrap_or, sym, refl, ap, ◌∙◌, subst, arith, Bor, ltb-false, le-ltb, ne_eqb, leb-false}
+use Rattle.std.proofs.Common.{◌≡◌, ℕ, ◌^◌, ◌<◌, ◌≤◌, Bool, true, not, ◌&&◌, eqb, ltb, leb, List, [], ◌∷◌, ◌++◌, length, get_or, is_some, Some, None, codes, decimal, Option, unwrap_or, sym, refl, ap, ◌∙◌, subst, arith, le-ltb, ne_eqb}
 use borrow.Author.Tests.{eqb-false, lt-leb, not-true, clash}
 use Rattle.std.proofs.lemmas.Bool.Decides.{nat_tests}
 use Rattle.std.proofs.lemmas.Grind.{common_steps}
 use Rattle.std.proofs.lemmas.List.{append_assoc, append-nil, get_or_at, length-append, length_push}
-use Rattle.std.proofs.lemmas.Bool.{and_parts, or_parts, or_from}
-use Rattle.std.proofs.lemmas.Option.{none-some}
-use Rattle.std.specs.Option.{option_map}
+use Rattle.std.proofs.lemmas.Bool.{and_parts, or_from}
 use Rattle.parish.proofs.Kept.{weights_push, joined_push, joined_among_more}
 use Rattle.parish.specs.declared.items.Link.{Link}
-use Rattle.parish.specs.declared.refusals.Refusal.{Refusal}
-use Rattle.parish.specs.Edits.{Edited, answer_by, left_by, link_table}
 use Rattle.parish.specs.Limits.{Joins}
 use Rattle.parish.specs.Model.{Model}
-use Rattle.parish.specs.Refusals.{first_applying}
 use Rattle.spelling.specs.Fields.{number_of, pin_of, pin_field}
-use Rattle.spelling.specs.Kinds.{households_kind, links_kind, blamed_in_link}
+use Rattle.spelling.specs.Kinds.{households_kind, links_kind}
 use Rattle.faults.specs.declared.Place.{Place}
-use Rattle.spelling.specs.Lines.{accepted as accepted-by, first_unwanted, spelt, spelt_by, household_by, link_by}
+use Rattle.spelling.specs.Lines.{first_unwanted, spelt, spelt_by, household_by, link_by}
 use Rattle.spelling.specs.Pieces.{Lacks, pieces}
 use Rattle.spelling.proofs.Digits.{number_fields, number_plain, pin_fields, pin_of_field, pin_plain}
-use Rattle.spelling.proofs.Reading.{LawfulKind, answer_err}
+use Rattle.spelling.proofs.Reading.{LawfulKind}
 
 some_value : {X : Type 0} (o : Option X) (d : X) → is_some o ≡ true → o ≡ Some (unwrap_or o d)
 some_value None d e = absurd (clash e)

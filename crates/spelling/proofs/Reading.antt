@@ -1,6 +1,6 @@
 -- Reading a sheet of any lawful kind: it succeeds just where the sheet spells records that the parish can take, and else
 -- gives the first fault. Assumes nothing.
-use Rattle.std.proofs.Common.{◌≡◌, ℕ, zero, suc, ◌+◌, ◌<◌, Bool, true, false, cond, eqb, ◌⊎◌, List, [], ◌∷◌, ◌++◌, length, get_or, Some, None, Ok, Err, Option, Result, Bor, sym, refl, ap, ◌∙◌, subst, inl, inr, ⊎_elim, arith, eq-eqb, ne_eqb, eqb-true}
+use Rattle.std.proofs.Common.{◌≡◌, ℕ, zero, suc, ◌+◌, ◌<◌, Bool, true, false, cond, eqb, ◌⊎◌, List, [], ◌∷◌, ◌++◌, length, get_or, Some, None, Ok, Err, Option, Result, Bor, sym, refl, ap, ◌∙◌, subst, inl, inr, ⊎_elim, arith, eq-eqb, eqb-true}
 use borrow.Author.Tests.{eqb-false, clash}
 use Rattle.std.proofs.ByRecursion.{All-append}
 use Rattle.std.proofs.lemmas.List.{append_assoc, append-nil}
@@ -23,7 +23,7 @@ use Rattle.faults.specs.declared.Place.{Place}
 use Rattle.spelling.specs.Fields.{same}
 use Rattle.spelling.specs.Kinds.{Kind}
 use Rattle.spelling.specs.Laws.{line_of, sheet_of, never, Plain, Opens, LineFails, unended, miscounted, unwanted, refused, SheetFails, misnamed, bad_line}
-use Rattle.spelling.specs.Lines.{and_then, raised, first_unwanted, line_fault, place_of, spelt, spelt_by, accepted, line_read, lines_read, all_read, sheet_read}
+use Rattle.spelling.specs.Lines.{and_then, raised, first_unwanted, line_fault, place_of, spelt, accepted, line_read, lines_read, all_read, sheet_read}
 use Rattle.spelling.specs.Pieces.{pieces, glued, Lacks, Parted}
 use Rattle.spelling.proofs.Cutting.{pieces_some, pieces_lack, pieces_free, pieces_at, pieces_glued, pieces_whole, glued_pieces}
 use Rattle.spelling.proofs.Digits.{same_self, same_decides, same_by_items, differ}
@@ -199,23 +199,16 @@ module _ {R : Type 0} (K : Kind R) where
 
     -- the line writes no record
     pub line_unspelt : (e : LineFault) → Err e ≡ spelt K p line → lines_read K p.line m (pieces 10 before) ≡ Err (Line e)
-    line_unspelt e s =
-        placed
-        ∙ ap (λ x. and_then (and_then (raised Line x) (λ r. raised Parish (accepted K p m r))) (λ k. lines_read K (p.line + 1) k (pieces 10 after))) (sym s)
+    line_unspelt e s = let step = placed in grind (arith, common_steps)
 
-    -- it writes a record, and reading goes on as the parish says to it
-    line_spelt : (r : R) → Ok r ≡ spelt K p line
-        → lines_read K p.line m (pieces 10 before) ≡ and_then (raised Parish (accepted K p m r)) (λ k. lines_read K (p.line + 1) k (pieces 10 after))
-    line_spelt r s =
-        placed
-        ∙ ap (λ x. and_then (and_then (raised Line x) (λ y. raised Parish (accepted K p m y))) (λ k. lines_read K (p.line + 1) k (pieces 10 after))) (sym s)
-
+    -- it writes a record, which the parish refuses
     pub line_refused : (r : R) (e : ParishFault) → Ok r ≡ spelt K p line → accepted K p m r ≡ Err e → lines_read K p.line m (pieces 10 before) ≡ Err (Parish e)
-    line_refused r e s a = line_spelt r s ∙ ap (λ x. and_then (raised Parish x) (λ k. lines_read K (p.line + 1) k (pieces 10 after))) a
+    line_refused r e s a = let step = placed in grind (arith, common_steps)
 
+    -- or takes, and reading goes on
     pub line_added : (r : R) (m' : Model) → Ok r ≡ spelt K p line → accepted K p m r ≡ Ok m'
         → lines_read K p.line m (pieces 10 before) ≡ lines_read K (p.line + 1) m' (pieces 10 after)
-    line_added r m' s a = line_spelt r s ∙ ap (λ x. and_then (raised Parish x) (λ k. lines_read K (p.line + 1) k (pieces 10 after))) a
+    line_added r m' s a = let step = placed in grind (arith, common_steps)
 
   -- the names line of the unread bytes
   names_step : (m : Model) (sheet after line : List ℕ) → pieces 10 sheet ≡ line ∷ pieces 10 after
@@ -493,17 +486,12 @@ module _ {R : Type 0} (K : Kind R) (lawful : LawfulKind K) where
     -- reading stops at it where it has a fault of its own, or its record is refused
     line_faulty : (n : ℕ) (m : Model) (d : LineFault) → line_fault K.wanted (place_of K n) fs ≡ Some d → lines_read K n m (pieces 10 rest) ≡ Err (Line d)
     line_faulty n m d e =
-        line_step K n m rest o.more (glued 44 fs) line_cut
-        ∙ ap (λ gs. and_then (and_then (raised Line (spelt_by K (place_of K n) gs)) (λ r. raised Parish (accepted K (place_of K n) m r))) (λ k. lines_read K (n + 1) k (pieces 10 o.more))) fields_cut
-        ∙ ap (λ x. and_then (and_then (raised Line (answer_by x (K.value fs))) (λ r. raised Parish (accepted K (place_of K n) m r))) (λ k. lines_read K (n + 1) k (pieces 10 o.more))) e
+        let step = line_step K n m rest o.more (glued 44 fs) line_cut in let cut = fields_cut in grind (arith, common_steps)
 
     line_unwelcome : (n : ℕ) (m : Model) (e : Refusal) → line_fault K.wanted (place_of K n) fs ≡ None → K.refusal m (K.value fs) ≡ Some e
         → lines_read K n m (pieces 10 rest) ≡ Err (Parish (record { place = place_of K n; field = K.blamed m (K.value fs) e; refusal = e }))
     line_unwelcome n m e good why =
-        line_step K n m rest o.more (glued 44 fs) line_cut
-        ∙ ap (λ gs. and_then (and_then (raised Line (spelt_by K (place_of K n) gs)) (λ r. raised Parish (accepted K (place_of K n) m r))) (λ k. lines_read K (n + 1) k (pieces 10 o.more))) fields_cut
-        ∙ ap (λ x. and_then (and_then (raised Line (answer_by x (K.value fs))) (λ r. raised Parish (accepted K (place_of K n) m r))) (λ k. lines_read K (n + 1) k (pieces 10 o.more))) good
-        ∙ ap (λ x. and_then (raised Parish (answer_by (option_map (λ d. record { place = place_of K n; field = K.blamed m (K.value fs) d; refusal = d }) x) (K.with_more m (K.value fs ∷ [])))) (λ k. lines_read K (n + 1) k (pieces 10 o.more))) why
+        let step = line_step K n m rest o.more (glued 44 fs) line_cut in let cut = fields_cut in grind (arith, common_steps)
 
   -- what is not ended is no line
   tail_fails : (n : ℕ) (m : Model) (rest : List ℕ) → 0 < length rest → Lacks 10 rest → lines_read K n m (pieces 10 rest) ≡ Err (Line (WrongCount (place_of K n)))
@@ -514,12 +502,10 @@ module _ {R : Type 0} (K : Kind R) (lawful : LawfulKind K) where
   line_fails_back n m rest (unended some lacks) = tail_fails n m rest some lacks
   line_fails_back n m rest (miscounted fs o ne) =
       line_faulty rest fs o n m (WrongCount (place_of K n))
-      (ap (λ t. cond t (option_map (λ i. Field (record { place = place_of K n; field = i })) (first_unwanted 1 K.wanted fs)) (Some (WrongCount (place_of K n)))) (ne_eqb (length fs) (length K.wanted) ne))
+      (grind (arith, nat_tests, common_steps))
   line_fails_back n m rest (unwanted fs k o long lt all bad) =
       line_faulty rest fs o n m (Field (record { place = place_of K n; field = k + 1 }))
-      (ap (λ t. cond t (option_map (λ i. Field (record { place = place_of K n; field = i })) (first_unwanted 1 K.wanted fs)) (Some (WrongCount (place_of K n)))) (eq-eqb (length fs) (length K.wanted) long)
-      ∙ ap (option_map (λ i. Field (record { place = place_of K n; field = i }))) (first_found 1 K.wanted fs k long lt all bad)
-      ∙ ap (λ i. Some (Field (record { place = place_of K n; field = i }))) (let z : 1 + k ≡ k + 1 = omega arith in z))
+      (let first = first_found 1 K.wanted fs k long lt all bad in let at : 1 + k ≡ k + 1 = omega arith in grind (arith, nat_tests, common_steps))
   line_fails_back n m rest (refused fs e o long all why) =
       line_unwelcome rest fs o n m e (none_fault K.wanted (place_of K n) fs long (wanted_none 1 K.wanted fs long all)) why
 

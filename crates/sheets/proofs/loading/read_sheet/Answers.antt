@@ -13,7 +13,7 @@ returns-then-ne g c =
     names_read g.K.SheetKind.kind (view c.args.parish.now) c.new-reader.result c.part.new.self c.part.result c.names_line.result c.part.ensures
     c.names_line.ensures ∙ cond-false _ _ _ named in
     ap (sheet_read g.K.SheetKind.kind (view c.args.parish.now)) (sym c.new-reader.ensures) ∙ read
-    ∙ (let here = c.sheet.ensures in let told = c.into.ensures in cc)
+    ∙ (let here = c.sheet-sheet.ensures in let told = c.into.ensures in cc)
 
 pub returns : goal.returns
 returns g c =
