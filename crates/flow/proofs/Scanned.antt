@@ -58,7 +58,7 @@ pub record Taking (s t : Search) (depth k : ℕ) (grew : Bool) (sent : ℕ) : Ty
   pub network : t.network ≡ s.network
   pub scan : scan_of grew sent t ≡ links_taken s depth k
 
-module _ (s : Search) (depth : ℕ) (ready : IsReady s depth) (k : ℕ) (le : k ≤ length s.network.links.now) (scan : Scan) (is : scan ≡ links_taken s depth k) where
+module _ (s : Search) (depth k : ℕ) (ready : IsReady s depth) (le : k ≤ length s.network.links.now) {scan : Scan} (is : scan ≡ links_taken s depth k) where
   pub scan_state : Scanning s.network.links.now s.network.lots.now s.network.left.now depth (blank (length s.network.lots.now) s.marks.now) s.room.now scan k
   scan_state =
       subst (λ x. Scanning s.network.links.now s.network.lots.now s.network.left.now depth (blank (length s.network.lots.now) s.marks.now) s.room.now x k) (sym is)
@@ -74,7 +74,7 @@ module _ (s : Search) (depth : ℕ) (ready : IsReady s depth) (k : ℕ) (le : k 
         residual_most s.network.links.now s.network.left.now s.room.now (length s.network.lots.now) (group_A s.network.lots.now) s.network.fits s.roomed,
       )
 
-module _ (s t : Search) (depth k : ℕ) (grew : Bool) (sent : ℕ) (ready : IsReady s depth) (lt : k < length s.network.links.now) (h : Taking s t depth k grew sent) where
+module _ {s t : Search} {depth k : ℕ} {grew : Bool} {sent : ℕ} (h : Taking s t depth k grew sent) (ready : IsReady s depth) (lt : k < length s.network.links.now) where
   -- one link more
   more : take_link s.network.links.now s.network.lots.now s.network.left.now depth (scan_of grew sent t) k ≡ links_taken s depth (k + 1)
   more =
@@ -91,7 +91,7 @@ module _ (s t : Search) (depth k : ℕ) (grew : Bool) (sent : ℕ) (ready : IsRe
         scan = ap (by_arc s.network.links.now s.network.lots.now s.network.left.now depth (scan_of grew sent t)) (none ∙ found_old) ∙ more;
       }
 
-  module _ (a : Arc) (found : Some a ≡ arc_on_in t depth k) where
+  module _ {a : Arc} (found : Some a ≡ arc_on_in t depth k) where
     arc_is : (a.link ≡ k) × LeadsOn s.network.links.now s.network.left.now t.room.now t.marks.now depth a
     arc_is = arc_some s.network.links.now s.network.left.now t.room.now t.marks.now depth k a (sym (found ∙ found_old))
 
@@ -100,7 +100,7 @@ module _ (s t : Search) (depth k : ℕ) (grew : Bool) (sent : ℕ) (ready : IsRe
 
     -- the marks are a tree, and where it leads to B the path that it ends is open
     tree_old : Tree s.network.links.now s.network.lots.now t.marks.now
-    tree_old = (scan_state s depth ready k (omega arith) (scan_of grew sent t) h.scan).tree
+    tree_old = (scan_state s depth k ready (omega arith) h.scan).tree
 
     pub scan_tree : IsTree t
     scan_tree = subst (λ (net : Network). Tree net.links.now net.lots.now t.marks.now) (sym h.network) tree_old
@@ -129,9 +129,9 @@ module _ (s t : Search) (depth k : ℕ) (grew : Bool) (sent : ℕ) (ready : IsRe
         sym (ap (λ x. cond x (sent_by s.network.links.now s.network.left.now depth (scan_of grew sent t) a) (reached_by s.network.links.now depth (scan_of grew sent t) a)) e)
         ∙ ap (by_arc s.network.links.now s.network.lots.now s.network.left.now depth (scan_of grew sent t)) (found ∙ found_old) ∙ more
 
-    pub scan_send : get_or s.network.lots.now (head s.network.links.now a) 0 ≡ 2 → (t' : Search) (d : ℕ) → d ≡ least_room_in t a
+    pub scan_send : get_or s.network.lots.now (head s.network.links.now a) 0 ≡ 2 → {t' : Search} {d : ℕ} → d ≡ least_room_in t a
         → Sends t t' d (path_to t a) → Taking s t' depth (k + 1) grew (sent + d)
-    scan_send goal t' d amount q =
+    scan_send goal {t'} {d} amount q =
         let least : d ≡ least_room s.network.left.now t.room.now a (path_before s.network.links.now t.marks.now depth a) = amount ∙ least_is in
         record {
           network = q.network ∙ h.network;
@@ -140,9 +140,9 @@ module _ (s t : Search) (depth k : ℕ) (grew : Bool) (sent : ℕ) (ready : IsRe
               ∙ taken true (eq-eqb (get_or s.network.lots.now (head s.network.links.now a) 0) 2 goal);
         }
 
-    pub scan_reach : (get_or s.network.lots.now (head s.network.links.now a) 0 ≡ 2 → ⊥) → (t' : Search) → Reaches t t' depth a
+    pub scan_reach : (get_or s.network.lots.now (head s.network.links.now a) 0 ≡ 2 → ⊥) → {t' : Search} → Reaches t t' depth a
         → Taking s t' depth (k + 1) true sent
-    scan_reach free t' q =
+    scan_reach free {t'} q =
         record {
           network = q.network ∙ h.network;
           scan = scan_same refl refl q.room
@@ -174,12 +174,12 @@ first_level s t n all same room marks =
           (first_ready t.network.links.now t.network.lots.now t.network.left.now t.network.fits.ends t.room.now);
     }
 
-pub no_level : (s t : Search) (n depth : ℕ) → n ≡ 0 → Seeking s t n depth → Searches s t 0
-no_level s t n depth none h =
+pub no_level : {s t : Search} {n depth : ℕ} → Seeking s t n depth → n ≡ 0 → Searches s t 0
+no_level {t = t} {depth = depth} h none =
     let end = sym (ap (λ i. search_on t i depth) none) ∙ h.goes_on in
     record { network = h.network; sent = ap (λ (x : Scan). x.sent) end; room = ap (λ (x : Scan). x.room) end }
 
-module _ (s t t' : Search) (n more depth : ℕ) (grew : Bool) (sent : ℕ) (e : n ≡ suc more) (h : Seeking s t n depth) (q : Scans t t' depth grew sent) where
+module _ {s t t' : Search} {n depth : ℕ} {grew : Bool} {sent : ℕ} (h : Seeking s t n depth) (q : Scans t t' depth grew sent) (more : ℕ) (e : n ≡ suc more) where
   -- the search from this level, by whether it goes on
   by_going : (b : Bool) → (grew && (sent == 0)) ≡ b
       → (elim b [
@@ -210,5 +210,5 @@ module _ (s t t' : Search) (n more depth : ℕ) (grew : Bool) (sent : ℕ) (e : 
             ∙ by_going true goes ∙ h.goes_on;
         ready = subst (λ (net : Network). Ready net.links.now net.lots.now net.left.now (depth + 1) t'.room.now t'.marks.now) (sym q.network)
             (next_ready t.network.links.now t.network.lots.now t.network.left.now t.network.fits.ends depth (blank (length t.network.lots.now) t.marks.now) h.ready.deep t.room.now (scan_of grew sent t')
-            (scan_state t depth h.ready (length t.network.links.now) (omega arith) (scan_of grew sent t') q.scan) (eqb-true sent 0 (and_parts grew (sent == 0) goes).1));
+            (scan_state t depth (length t.network.links.now) h.ready (omega arith) q.scan) (eqb-true sent 0 (and_parts grew (sent == 0) goes).1));
       }

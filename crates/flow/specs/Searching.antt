@@ -3,8 +3,9 @@ use Rattle.std.specs.Prelude.{◌≡◌, ℕ, ◌+◌, Bool, List, ◌∷◌, So
 use Rattle.parish.specs.Model.{Model, Sound}
 use Rattle.bisection.specs.Lots.{Lots}
 use Rattle.flows.specs.declared.items.Arc.{Arc}
+use Rattle.flows.specs.Cuts.{least_cut}
 use Rattle.flows.specs.Paths.{tail, head, room_of, least_room, send_all, Open}
-use Rattle.flows.specs.Levels.{level_of, Scan, path_before, leads_on, arc_on, scan_level, searched}
+use Rattle.flows.specs.Levels.{level_of, Scan, path_before, leads_on, arc_on, scan_level, searched, chosen_room}
 use Rattle.flows.specs.Trees.{Tree, Ready}
 use Rattle.flow.specs.declared.network.Network.{Network}
 use Rattle.flow.specs.declared.network.Search.{Search}
@@ -71,3 +72,9 @@ pub record Searches (s s' : Search) (amount : ℕ) : Type 0 where
   pub network : s'.network ≡ s.network
   pub sent : amount ≡ (searched s.network.links.now s.network.lots.now s.network.left.now s.room.now).sent
   pub room : s'.room.now ≡ (searched s.network.links.now s.network.lots.now s.network.left.now s.room.now).room
+
+-- search follows search until nothing is sent: in a parish with this network, as much as the least cut, and the chosen room is left
+pub record SendsAll (s s' : Search) (amount : ℕ) : Type 0 where
+  pub network : s'.network ≡ s.network
+  pub sent : (m : Model) → IsOf m s.network → amount ≡ least_cut m s.network.lots.now s.network.left.now
+  pub room : (m : Model) → IsOf m s.network → s'.room.now ≡ chosen_room m s.network.lots.now s.network.left.now

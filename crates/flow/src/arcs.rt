@@ -17,6 +17,7 @@ impl Network<'_> {
     }
 
     // The household that it leads to.
+    // A mirror of the other: one function for the pair of ends would hide at each use which of them is meant.
     pub(crate) fn head(&self, arc: Arc) -> usize
         requires { arc.link < length self.now.links.now }
         ensures { result ≡ head_of self.now.links.now arc }

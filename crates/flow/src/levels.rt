@@ -59,17 +59,17 @@ impl Search<'_, '_> {
         ensures { result ≡ arc_on_in self.now depth link }
     {
         let onward = Arc { link, onward: true };
-        if self.leads_on(depth, onward) {
-            return Some(onward);
-        }
         let back = Arc {
             link,
             onward: false,
         };
-        if self.leads_on(depth, back) {
-            return Some(back);
+        if self.leads_on(depth, onward) {
+            Some(onward)
+        } else if self.leads_on(depth, back) {
+            Some(back)
+        } else {
+            None
         }
-        None
     }
 
     // An arc from a level reaches a household.
@@ -86,7 +86,7 @@ impl Search<'_, '_> {
         });
     }
 
-    // Takes each link in turn: what it leads to is reached, or sent to where it is set in B.
+    // Takes each link in turn, by its number: what it leads to is reached, or sent to where it is set in B.
     fn scan_level(&mut self, depth: usize) -> Scanned
         requires ready { IsReady self.old depth }
         requires shallow { depth ≤ length self.old.network.lots.now }

@@ -40,6 +40,7 @@ impl Search<'_, '_> {
     }
 
     // Sends an amount along the path that an arc ends.
+    // The same walk again: an iterator over the arcs would keep the search lent while it changes.
     fn send_back(&mut self, last: Arc, amount: u32)
         requires tree { IsTree self.old }
         requires open { IsOpen self.old amount (path_to self.old last) }
