@@ -61,27 +61,27 @@ module _ (ls : List Link) (left room : List ℕ) (marks : List (Option Mark)) (d
       → (P : Arc → Type 0) → (s ≡ true → P x) → (t ≡ true → P y) → P a
   by_tests true t x y a e P f g = let same : x ≡ a = cc in subst P same (f refl)
   by_tests false true x y a e P f g = let same : y ≡ a = cc in subst P same (g refl)
-  by_tests false false x y a e P f g = absurd (let z : ◌≡◌ {A = ℕ} 0 1 = cc in omega arith)
+  by_tests false false x y a e P f g = absurd cc
 
   none_tests : (s t : Bool) (x y : Arc) → cond s (Some x) (cond t (Some y) None) ≡ None → (s ≡ false) × (t ≡ false)
-  none_tests true t x y e = absurd (let z : ◌≡◌ {A = ℕ} 0 1 = cc in omega arith)
-  none_tests false true x y e = absurd (let z : ◌≡◌ {A = ℕ} 0 1 = cc in omega arith)
+  none_tests true t x y e = absurd cc
+  none_tests false true x y e = absurd cc
   none_tests false false x y e = (refl, refl)
+
+  -- a link gone one way or the other
+  abbrev way : ℕ → Bool → Arc
+  way k o = record { link = k; onward = o }
 
   pub arc_some : (k : ℕ) (a : Arc) → arc_on ls left room marks depth k ≡ Some a → (a.link ≡ k) × LeadsOn ls left room marks depth a
   arc_some k a e =
-      by_tests (leads_on ls left room marks depth (record { link = k; onward = true })) (leads_on ls left room marks depth (record { link = k; onward = false }))
-      (record { link = k; onward = true }) (record { link = k; onward = false }) a e (λ b. (b.link ≡ k) × LeadsOn ls left room marks depth b)
-      (λ q. (refl, on_true (record { link = k; onward = true }) q)) (λ q. (refl, on_true (record { link = k; onward = false }) q))
+      by_tests (leads_on ls left room marks depth (way k true)) (leads_on ls left room marks depth (way k false)) (way k true) (way k false) a e
+      (λ b. (b.link ≡ k) × LeadsOn ls left room marks depth b) (λ q. (refl, on_true (way k true) q)) (λ q. (refl, on_true (way k false) q))
 
   module _ (deep : 1 ≤ depth) (ranked : (v : ℕ) (m : Mark) → mark_of marks v ≡ Some m → 1 ≤ m.level) where
     pub arc_none : (k : ℕ) → arc_on ls left room marks depth k ≡ None → (o : Bool) → Covered ls left room marks depth (record { link = k; onward = o })
-    arc_none k e true =
-        on_false deep ranked (record { link = k; onward = true })
-        (none_tests (leads_on ls left room marks depth (record { link = k; onward = true })) (leads_on ls left room marks depth (record { link = k; onward = false })) (record { link = k; onward = true }) (record { link = k; onward = false }) e).0
-    arc_none k e false =
-        on_false deep ranked (record { link = k; onward = false })
-        (none_tests (leads_on ls left room marks depth (record { link = k; onward = true })) (leads_on ls left room marks depth (record { link = k; onward = false })) (record { link = k; onward = true }) (record { link = k; onward = false }) e).1
+    arc_none k e o =
+        let none = none_tests (leads_on ls left room marks depth (way k true)) (leads_on ls left room marks depth (way k false)) (way k true) (way k false) e in
+        on_false deep ranked (way k o) (elim o as (λ x. leads_on ls left room marks depth (way k x) ≡ false) [ true ↦ none.0 | false ↦ none.1 ])
 
 -- one end of a link, and both
 one_end : (o : Bool) (x y : ℕ) (P : ℕ → Type 0) → P x → P y → P (cond o x y)

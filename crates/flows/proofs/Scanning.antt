@@ -195,6 +195,37 @@ module _ (ls : List Link) (lots left : List ℕ) (within : Within (length lots) 
     pub sends : Sends ls lots left before list s.sent s.room
     pub ends : s.sent ≡ 0 → Shut ls lots left s.room
 
+  -- a level is scanned: the search goes on to the next, or ends
+  module _ (more depth : ℕ) (room : List ℕ) (marks : List (Option Mark)) (r : Ready ls lots left depth room marks) (few : blank (length lots) marks ≤ suc more)
+      (s : Scan) (h : Scanning ls lots left depth (blank (length lots) marks) room s (length ls))
+      (next : (after : List ℕ) (ms : List (Option Mark)) → Ready ls lots left (depth + 1) after ms → blank (length lots) ms ≤ more
+      → Found after (search_from ls lots left more (depth + 1) after ms)) where
+    ready_next : s.sent ≡ 0 → Ready ls lots left (depth + 1) s.room s.marks
+    ready_next z = next_ready depth (blank (length lots) marks) r.deep room s h z
+
+    found_by : (b : Bool) → goes_on s ≡ b → Found room (elim b [
+      | true ↦ search_from ls lots left more (depth + 1) s.room s.marks
+      | false ↦ s
+    ])
+    found_by true e =
+        let p = and_parts s.grew (eqb s.sent 0) e in
+        let z : s.sent ≡ 0 = eqb-true s.sent 0 p.1 in
+        let one : ◌≡◌ {A = ℕ} (cond s.grew 1 0) 1 = ap (λ b. cond b 1 0) p.0 in
+        subst (λ x. Found x (search_from ls lots left more (depth + 1) s.room s.marks)) (h.idle z).same
+        (next s.room s.marks (ready_next z) (omega (arith, h.fewer)))
+    found_by false e =
+        record {
+          list = h.list;
+          sends = h.sends;
+          ends = λ z.
+              let n = ready_next z in
+              let none : ◌≡◌ {A = ℕ} (cond s.grew 1 0) 0 = stuck s.grew s.sent e z in
+              shut_side s.room s.marks n.tree n.no_goal (λ a there some. n.covered (level_of s.marks (tail ls a)) some (omega (arith, h.low (tail ls a))) a there refl);
+        }
+      where
+        stuck : (g : Bool) (d : ℕ) → (g && eqb d 0) ≡ false → d ≡ 0 → ◌≡◌ {A = ℕ} (cond g 1 0) 0
+        stuck g d e z = grind (arith, nat_tests)
+
   pub found_from : (more depth : ℕ) (room : List ℕ) (marks : List (Option Mark)) → Ready ls lots left depth room marks → blank (length lots) marks ≤ more
       → Found room (search_from ls lots left more depth room marks)
   found_from zero depth room marks r few =
@@ -205,34 +236,8 @@ module _ (ls : List Link) (lots left : List ℕ) (within : Within (length lots) 
             (λ a there some open'. blank_none (length lots) marks (head ls a) few (head_within (length lots) ls a within there));
       }
   found_from (suc more) depth room marks r few =
-      let s : Scan = scan_level ls lots left depth room marks in
-      let h : Scanning ls lots left depth (blank (length lots) marks) room (scan_level ls lots left depth room marks) (length ls) = scanning depth room marks r (length ls) (omega arith) in
-      elim (goes_on (scan_level ls lots left depth room marks))
-      as (λ b. goes_on (scan_level ls lots left depth room marks) ≡ b → Found room (elim b [
-        | true ↦ search_from ls lots left more (depth + 1) (scan_level ls lots left depth room marks).room (scan_level ls lots left depth room marks).marks
-        | false ↦ scan_level ls lots left depth room marks
-      ])) [
-        | true ↦ λ e.
-            let p = and_parts (scan_level ls lots left depth room marks).grew (eqb (scan_level ls lots left depth room marks).sent 0) e in
-            let z : (scan_level ls lots left depth room marks).sent ≡ 0 = eqb-true (scan_level ls lots left depth room marks).sent 0 p.1 in
-            let one : ◌≡◌ {A = ℕ} (cond (scan_level ls lots left depth room marks).grew 1 0) 1 = ap (λ b. cond b 1 0) p.0 in
-            subst (λ x. Found x (search_from ls lots left more (depth + 1) (scan_level ls lots left depth room marks).room (scan_level ls lots left depth room marks).marks)) (h.idle z).same
-            (found_from more (depth + 1) (scan_level ls lots left depth room marks).room (scan_level ls lots left depth room marks).marks
-            (next_ready depth (blank (length lots) marks) r.deep room (scan_level ls lots left depth room marks) h z) (omega (arith, h.fewer)))
-        | false ↦ λ e.
-            record {
-              list = h.list;
-              sends = h.sends;
-              ends = λ z.
-                  let n = next_ready depth (blank (length lots) marks) r.deep room (scan_level ls lots left depth room marks) h z in
-                  let none : ◌≡◌ {A = ℕ} (cond (scan_level ls lots left depth room marks).grew 1 0) 0 = stuck (scan_level ls lots left depth room marks).grew (scan_level ls lots left depth room marks).sent e z in
-                  shut_side (scan_level ls lots left depth room marks).room (scan_level ls lots left depth room marks).marks n.tree n.no_goal
-                  (λ a there some. n.covered (level_of (scan_level ls lots left depth room marks).marks (tail ls a)) some (omega (arith, h.low (tail ls a))) a there refl);
-            }
-      ] refl
-    where
-      stuck : (g : Bool) (d : ℕ) → (g && eqb d 0) ≡ false → d ≡ 0 → ◌≡◌ {A = ℕ} (cond g 1 0) 0
-      stuck g d e z = grind (arith, nat_tests)
+      found_by more depth room marks r few (scan_level ls lots left depth room marks) (scanning depth room marks r (length ls) (omega arith))
+      (λ after ms ready fewer. found_from more (depth + 1) after ms ready fewer) (goes_on (scan_level ls lots left depth room marks)) refl
 
   -- ---- from the first level on
   pub first_ready : (room : List ℕ) → Ready ls lots left 1 room (level_one lots)
