@@ -14,11 +14,11 @@ use Rattle.flows.specs.Trees.{IsNetwork, Tree, Ready}
 use Rattle.bounds.proofs.Indexed.{sum_below_le}
 use Rattle.flows.proofs.Sending.{crossing, residual}
 use Rattle.flows.proofs.Rounds.{group_A, group_A_parts, Moved, moved_sends}
-use Rattle.flows.proofs.Levels.{LeadsOn, arc_some, blank, way_by}
+use Rattle.flows.proofs.Levels.{LeadsOn, arc_some, arc_leads, blank, way_by}
 use Rattle.flows.proofs.Scanning.{Scanning, scanning, next_ready, first_ready}
 use Rattle.flow.specs.declared.network.Network.{Network}
 use Rattle.flow.specs.declared.network.Search.{Search}
-use Rattle.flow.specs.Searching.{arc_on_in, path_to, least_room_in, IsTree, IsReady, IsOpen, Sends, Reaches, Scans, Searches}
+use Rattle.flow.specs.Searching.{leads_on_in, arc_on_in, path_to, least_room_in, IsReady, IsOpen, Sends, Reaches, Scans, Searches}
 
 -- what a scan can send at most: twice what is left of every link
 abbrev pub most_sent : ℕ
@@ -98,12 +98,12 @@ module _ {s t : Search} {depth k : ℕ} {grew : Bool} {sent : ℕ} (h : Taking s
     pub scan_there : a.link < length s.network.links.now
     scan_there = omega (arith, arc_is.0)
 
-    -- the marks are a tree, and where it leads to B the path that it ends is open
+    -- the arc leads on, and where it leads to B the path that it ends is open
     tree_old : Tree s.network.links.now s.network.lots.now t.marks.now
     tree_old = (scan_state s depth k ready (omega arith) h.scan).tree
 
-    pub scan_tree : IsTree t
-    scan_tree = subst (λ (net : Network). Tree net.links.now net.lots.now t.marks.now) (sym h.network) tree_old
+    pub scan_leads : leads_on_in t depth a ≡ true
+    scan_leads = arc_leads t.network.links.now t.network.left.now t.room.now t.marks.now depth k a (sym found)
 
     path_is : path_to t a ≡ a ∷ path_before s.network.links.now t.marks.now depth a
     path_is =

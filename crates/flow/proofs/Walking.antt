@@ -5,12 +5,11 @@ use Rattle.flows.specs.declared.items.Arc.{Arc}
 use Rattle.flows.specs.declared.items.Mark.{Mark}
 use Rattle.flows.specs.Paths.{tail, send_all, Open}
 use Rattle.flows.specs.Levels.{level_of, arc_to, path_back}
-use Rattle.flows.specs.Trees.{Parent}
-use Rattle.flows.proofs.Levels.{path_more}
+use Rattle.flows.proofs.Levels.{path_more, Step, step_to}
 use Rattle.flows.proofs.Sending.{open_rest}
 use Rattle.flow.specs.declared.network.Network.{Network}
 use Rattle.flow.specs.declared.network.Search.{Search}
-use Rattle.flow.specs.Searching.{room_in, least_room_in, path_to, IsTree, Sends}
+use Rattle.flow.specs.Searching.{room_in, least_room_in, path_to, Sends}
 
 -- the path that an arc ends, if there is one
 abbrev pub path_by : Search → Option Arc → List Arc
@@ -33,13 +32,13 @@ pub record Walking (s t : Search) (d : ℕ) (next : Option Arc) (whole : List �
   pub goes_on : send_all d t.room.now (path_by s next) ≡ whole
   pub clear : Open s.network.links.now s.network.left.now t.room.now d (path_by s next)
 
-module _ (s : Search) (tree : IsTree s) where
+module _ (s : Search) where
   -- the path back from a household is that by the arc to it
   back_by : (v n : ℕ) → level_of s.marks.now v ≡ n → path_back s.network.links.now s.marks.now (n - 1) v ≡ path_by s (arc_to s.marks.now v)
-  back_by v zero e = sym (ap (path_by s) (tree.roots v (omega arith)))
-  back_by v (suc zero) e = sym (ap (path_by s) (tree.roots v (omega arith)))
+  back_by v zero e = sym (ap (path_by s) (s.tree.roots v (omega arith)))
+  back_by v (suc zero) e = sym (ap (path_by s) (s.tree.roots v (omega arith)))
   back_by v (suc (suc d)) e =
-      let p : Parent s.network.links.now s.marks.now v d = tree.linked v d e in
+      let p : Step s.network.links.now s.marks.now v d = step_to s.tree v d e in
       let steps : suc (suc d) - 1 ≡ suc d = omega arith in
       let level : d ≡ level_of s.marks.now (tail s.network.links.now p.arc) - 1 = omega (arith, p.above) in
       ap (λ i. path_back s.network.links.now s.marks.now i v) steps
@@ -54,10 +53,10 @@ module _ (s : Search) (tree : IsTree s) where
 
   -- the arc before one is there
   arc_there : (v n : ℕ) → level_of s.marks.now v ≡ n → (a : Arc) → arc_to s.marks.now v ≡ Some a → a.link < length s.network.links.now
-  arc_there v zero e a is = absurd (let z = sym (tree.roots v (omega arith)) ∙ is in cc)
-  arc_there v (suc zero) e a is = absurd (let z = sym (tree.roots v (omega arith)) ∙ is in cc)
+  arc_there v zero e a is = absurd (let z = sym (s.tree.roots v (omega arith)) ∙ is in cc)
+  arc_there v (suc zero) e a is = absurd (let z = sym (s.tree.roots v (omega arith)) ∙ is in cc)
   arc_there v (suc (suc d)) e a is =
-      let p : Parent s.network.links.now s.marks.now v d = tree.linked v d e in
+      let p : Step s.network.links.now s.marks.now v d = step_to s.tree v d e in
       let some : ◌≡◌ {A = Option Arc} (Some p.arc) (Some a) = sym p.is ∙ is in
       let same : p.arc ≡ a = cc in
       subst (λ (b : Arc). b.link < length s.network.links.now) same p.there

@@ -6,7 +6,7 @@ use Rattle.flows.specs.declared.items.Arc.{Arc}
 use Rattle.flows.specs.Cuts.{least_cut}
 use Rattle.flows.specs.Paths.{tail, head, room_of, least_room, send_all, Open, amounts}
 use Rattle.flows.specs.Levels.{level_of, Scan, path_before, leads_on, arc_on, scan_level, searched, chosen_room}
-use Rattle.flows.specs.Trees.{Tree, Ready}
+use Rattle.flows.specs.Trees.{Ready}
 use Rattle.flow.specs.declared.network.Network.{Network}
 use Rattle.flow.specs.declared.network.Search.{Search}
 
@@ -40,10 +40,6 @@ path_to s a = a ∷ path_before s.network.links.now s.marks.now (level_of s.mark
 abbrev pub least_room_in : Search → Arc → ℕ
 least_room_in s a =
     least_room s.network.left.now s.room.now a (path_before s.network.links.now s.marks.now (level_of s.marks.now (tail s.network.links.now a)) a)
-
--- the marks are those of levels
-abbrev pub IsTree : Search → Type 0
-IsTree s = Tree s.network.links.now s.network.lots.now s.marks.now
 
 -- an amount can be sent along a path
 abbrev pub IsOpen : Search → ℕ → List Arc → Type 0

@@ -1,5 +1,5 @@
 // A search for shortest paths from A to B, level by level.
-ghost use Rattle.std.specs.Prelude.{◌≡◌, ◌<◌, ◌≤◌, ◌&&◌, ◌==◌, length};
+ghost use Rattle.std.specs.Prelude.{◌≡◌, ◌<◌, ◌≤◌, ◌&&◌, ◌==◌, true, length};
 ghost use Rattle.flows.specs.Levels.{level_one};
 ghost use Rattle.flow.specs.Searching.{leads_on_in, arc_on_in, IsReady, Reaches, Scans, Searches};
 
@@ -72,9 +72,11 @@ impl Search<'_, '_> {
         }
     }
 
-    // An arc from a level reaches a household.
+    // An arc that leads on from a level reaches a household.
     fn reach(&mut self, depth: usize, arc: Arc)
         requires there { arc.link < length self.old.network.links.now }
+        requires leads { leads_on_in self.old depth arc ≡ true }
+        requires deep { 1 ≤ depth }
         requires shallow { depth ≤ length self.old.network.lots.now }
         ensures { Reaches self.old self.new depth arc }
     {

@@ -1,6 +1,10 @@
 use Rattle.std.proofs.Common.{◌+◌, ◌-◌, length, sym, refl, ◌∙◌, arith}
+use Rattle.flow.proofs.Marks.{first_tree}
 use Rattle.flow.proofs.Scanned.{first_level, no_level, level_stops, level_goes}
 use Rattle.flow.proofs.network.Search.search.Goals as goal
+
+pub invariant_of-self-clause-tree : goal.invariant_of-self-clause-tree
+invariant_of-self-clause-tree c = rw c.mark_first.ensures (first_tree c.args.self.now)
 
 pub loop-depth-init : goal.loop-depth-init
 loop-depth-init c = first_level c.args.self.now _ _ (omega arith) refl refl c.mark_first.ensures
