@@ -1,5 +1,6 @@
 // A search for shortest paths from A to B, level by level.
-ghost use Rattle.std.specs.Prelude.{◌≡◌, ◌<◌, ◌≤◌, ◌&&◌, ◌==◌, true, length};
+ghost use Rattle.std.specs.Prelude.{◌≡◌, ◌+◌, ◌<◌, ◌≤◌, ◌&&◌, ◌==◌, true, Some, length};
+ghost use Rattle.parish.specs.Limits.{most_households};
 ghost use Rattle.flows.specs.Levels.{level_one};
 ghost use Rattle.flow.specs.Searching.{leads_on_in, arc_on_in, IsReady, Reaches, Scans, Searches};
 
@@ -35,6 +36,17 @@ fn mark_first(lots: &[u8], marks: &mut [Option<Mark>])
             arc: None,
         };
         marks[household] = (*lot == IN_A).then_some(mark);
+    }
+}
+
+// The mark of a household that an arc from a level reaches: it is at the next level.
+fn mark_from(depth: usize, arc: Arc) -> Mark
+    requires { depth ≤ most_households }
+    ensures { result ≡ record { level = depth + 1; arc = Some arc } }
+{
+    Mark {
+        level: depth + 1,
+        arc: Some(arc),
     }
 }
 
@@ -82,10 +94,7 @@ impl Search<'_, '_> {
     {
         let network = self.network;
         let household = network.head(arc);
-        self.marks[household] = Some(Mark {
-            level: depth + 1,
-            arc: Some(arc),
-        });
+        self.marks[household] = Some(mark_from(depth, arc));
     }
 
     // Takes each link in turn, by its number: what it leads to is reached, or sent to where it is set in B.
