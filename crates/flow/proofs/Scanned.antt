@@ -7,10 +7,10 @@ use Rattle.flows.specs.declared.items.Arc.{Arc}
 use Rattle.flows.specs.declared.items.Mark.{Mark}
 use Rattle.bounds.specs.Sums.{sum_below}
 use Rattle.bounds.specs.Left.{link_at}
-use Rattle.flows.specs.Paths.{tail, head, least_room, send_all, Open}
+use Rattle.flows.specs.Paths.{head, least_room, send_all, Open}
 use Rattle.flows.specs.Rounds.{Roomed}
-use Rattle.flows.specs.Levels.{level_of, level_one, Scan, fresh, goes_on, path_before, arc_on, sent_by, reached_by, by_arc, take_link, take_links, search_from, searched}
-use Rattle.flows.specs.Trees.{IsNetwork, Tree, Ready}
+use Rattle.flows.specs.Levels.{level_one, Scan, fresh, goes_on, path_before, arc_on, sent_by, reached_by, by_arc, take_link, take_links, search_from, searched}
+use Rattle.flows.specs.Trees.{IsNetwork, Ready}
 use Rattle.bounds.proofs.Indexed.{sum_below_le}
 use Rattle.flows.proofs.Sending.{crossing, residual}
 use Rattle.flows.proofs.Rounds.{group_A, group_A_parts, Moved, moved_sends}
@@ -92,35 +92,33 @@ module _ {s t : Search} {depth k : ℕ} {grew : Bool} {sent : ℕ} (h : Taking s
       }
 
   module _ {a : Arc} (found : Some a ≡ arc_on_in t depth k) where
-    arc_is : (a.link ≡ k) × LeadsOn s.network.links.now s.network.left.now t.room.now t.marks.now depth a
-    arc_is = arc_some s.network.links.now s.network.left.now t.room.now t.marks.now depth k a (sym (found ∙ found_old))
+    arc_is : (a.link ≡ k) × LeadsOn t.network.links.now t.network.left.now t.room.now t.marks.now depth a
+    arc_is = arc_some t.network.links.now t.network.left.now t.room.now t.marks.now depth k a (sym found)
 
-    pub scan_there : a.link < length s.network.links.now
-    scan_there = omega (arith, arc_is.0)
-
-    -- the arc leads on, and where it leads to B the path that it ends is open
-    tree_old : Tree s.network.links.now s.network.lots.now t.marks.now
-    tree_old = (scan_state s depth k ready (omega arith) h.scan).tree
+    pub scan_there : a.link < length t.network.links.now
+    scan_there = omega (arith, arc_is.0, ap (λ (net : Network). length net.links.now) h.network)
 
     pub scan_leads : leads_on_in t depth a ≡ true
     scan_leads = arc_leads t.network.links.now t.network.left.now t.room.now t.marks.now depth k a (sym found)
 
+    -- where it leads to B, the path that it ends is open
+    pub scan_open : get_or s.network.lots.now (head s.network.links.now a) 0 ≡ 2 → IsOpen t (least_room_in t a) (path_to t a)
+    scan_open goal =
+        let here = ap (λ (net : Network). get_or net.lots.now (head net.links.now a) 0) h.network ∙ goal in
+        subst (λ n. Open t.network.links.now t.network.left.now t.room.now (least_room t.network.left.now t.room.now a (path_before t.network.links.now t.marks.now n a)) (a ∷ path_before t.network.links.now t.marks.now n a))
+        (sym arc_is.1.here)
+        (way_by t.network.links.now t.network.lots.now t.marks.now t.tree t.network.left.now t.room.now depth a ready.deep scan_there arc_is.1 here).clear
+
+    -- the path as the theory has it
     path_is : path_to t a ≡ a ∷ path_before s.network.links.now t.marks.now depth a
     path_is =
-        ap (λ (net : Network). a ∷ path_before net.links.now t.marks.now (level_of t.marks.now (tail net.links.now a)) a) h.network
-        ∙ ap (λ n. a ∷ path_before s.network.links.now t.marks.now n a) arc_is.1.here
+        ap (λ n. a ∷ path_before t.network.links.now t.marks.now n a) arc_is.1.here
+        ∙ ap (λ (net : Network). a ∷ path_before net.links.now t.marks.now depth a) h.network
 
     least_is : least_room_in t a ≡ least_room s.network.left.now t.room.now a (path_before s.network.links.now t.marks.now depth a)
     least_is =
-        ap (λ (net : Network). least_room net.left.now t.room.now a (path_before net.links.now t.marks.now (level_of t.marks.now (tail net.links.now a)) a)) h.network
-        ∙ ap (λ n. least_room s.network.left.now t.room.now a (path_before s.network.links.now t.marks.now n a)) arc_is.1.here
-
-    pub scan_open : get_or s.network.lots.now (head s.network.links.now a) 0 ≡ 2 → IsOpen t (least_room_in t a) (path_to t a)
-    scan_open goal =
-        rw (path_is, least_is)
-        (subst (λ (net : Network). Open net.links.now net.left.now t.room.now (least_room s.network.left.now t.room.now a (path_before s.network.links.now t.marks.now depth a)) (a ∷ path_before s.network.links.now t.marks.now depth a))
-        (sym h.network)
-        (way_by s.network.links.now s.network.lots.now t.marks.now tree_old s.network.left.now t.room.now depth a ready.deep scan_there arc_is.1 goal).clear)
+        ap (λ n. least_room t.network.left.now t.room.now a (path_before t.network.links.now t.marks.now n a)) arc_is.1.here
+        ∙ ap (λ (net : Network). least_room net.left.now t.room.now a (path_before net.links.now t.marks.now depth a)) h.network
 
     taken : (b : Bool) → (get_or s.network.lots.now (head s.network.links.now a) 0 == 2) ≡ b
         → cond b (sent_by s.network.links.now s.network.left.now depth (scan_of grew sent t) a) (reached_by s.network.links.now depth (scan_of grew sent t) a)
