@@ -49,7 +49,7 @@ impl Search<'_, '_> {
 }
 
 // Adds a greatest flow through what charges leave to them, and answers how much it is.
-pub(crate) fn add_flow<'a>(parish: &'a Parish, lots: &'a [u8], charges: &mut [u32]) -> u32
+pub(crate) fn add_flow(parish: &Parish, lots: &[u8], charges: &mut [u32]) -> u32
     requires fit { Lots (view parish.now) lots.now }
     requires charges_fit { length charges.old ≡ length (view parish.now).links }
     requires within { (k : ℕ) → slice_index charges.old k ≤ slice_index (strengths (view parish.now).links) k }

@@ -56,7 +56,7 @@ impl Search<'_, '_> {
         requires { arc.link < length self.now.network.links.now }
         ensures { result ≡ leads_on_in self.now depth arc }
     {
-        // Marks are read where they are, and that of the head first: copies of them, or the other order, take a fifth longer.
+        // Marks are read where they are, and that of the head first: copies, or the other order, take a fifth to a half longer.
         let marks = &*self.marks;
         let from = &marks[self.network.tail(arc)];
         let to = &marks[self.network.head(arc)];
