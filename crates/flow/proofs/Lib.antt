@@ -1,4 +1,5 @@
 pub mod Walking
+pub mod Marks
 pub mod Scanned
 pub mod Sent
 pub mod Parishes

@@ -7,18 +7,18 @@ use Rattle.flows.specs.declared.items.Arc.{Arc}
 use Rattle.flows.specs.declared.items.Mark.{Mark}
 use Rattle.bounds.specs.Sums.{sum_below}
 use Rattle.bounds.specs.Left.{link_at}
-use Rattle.flows.specs.Paths.{tail, head, least_room, send_all, Open}
+use Rattle.flows.specs.Paths.{head, least_room, send_all, Open}
 use Rattle.flows.specs.Rounds.{Roomed}
-use Rattle.flows.specs.Levels.{level_of, level_one, Scan, fresh, goes_on, path_before, arc_on, sent_by, reached_by, by_arc, take_link, take_links, search_from, searched}
-use Rattle.flows.specs.Trees.{IsNetwork, Tree, Ready}
+use Rattle.flows.specs.Levels.{level_one, Scan, fresh, goes_on, path_before, arc_on, sent_by, reached_by, by_arc, take_link, take_links, search_from, searched}
+use Rattle.flows.specs.Trees.{IsNetwork, Ready}
 use Rattle.bounds.proofs.Indexed.{sum_below_le}
 use Rattle.flows.proofs.Sending.{crossing, residual}
 use Rattle.flows.proofs.Rounds.{group_A, group_A_parts, Moved, moved_sends}
-use Rattle.flows.proofs.Levels.{LeadsOn, arc_some, blank, way_by}
+use Rattle.flows.proofs.Levels.{LeadsOn, arc_some, arc_leads, blank, way_by}
 use Rattle.flows.proofs.Scanning.{Scanning, scanning, next_ready, first_ready}
 use Rattle.flow.specs.declared.network.Network.{Network}
 use Rattle.flow.specs.declared.network.Search.{Search}
-use Rattle.flow.specs.Searching.{arc_on_in, path_to, least_room_in, IsTree, IsReady, IsOpen, Sends, Reaches, Scans, Searches}
+use Rattle.flow.specs.Searching.{leads_on_in, arc_on_in, path_to, least_room_in, IsReady, IsOpen, Sends, Reaches, Scans, Searches}
 
 -- what a scan can send at most: twice what is left of every link
 abbrev pub most_sent : ℕ
@@ -58,7 +58,7 @@ pub record Taking (s t : Search) (depth k : ℕ) (grew : Bool) (sent : ℕ) : Ty
   pub network : t.network ≡ s.network
   pub scan : scan_of grew sent t ≡ links_taken s depth k
 
-module _ (s : Search) (depth : ℕ) (ready : IsReady s depth) (k : ℕ) (le : k ≤ length s.network.links.now) (scan : Scan) (is : scan ≡ links_taken s depth k) where
+module _ (s : Search) (depth k : ℕ) (ready : IsReady s depth) (le : k ≤ length s.network.links.now) {scan : Scan} (is : scan ≡ links_taken s depth k) where
   pub scan_state : Scanning s.network.links.now s.network.lots.now s.network.left.now depth (blank (length s.network.lots.now) s.marks.now) s.room.now scan k
   scan_state =
       subst (λ x. Scanning s.network.links.now s.network.lots.now s.network.left.now depth (blank (length s.network.lots.now) s.marks.now) s.room.now x k) (sym is)
@@ -74,7 +74,7 @@ module _ (s : Search) (depth : ℕ) (ready : IsReady s depth) (k : ℕ) (le : k 
         residual_most s.network.links.now s.network.left.now s.room.now (length s.network.lots.now) (group_A s.network.lots.now) s.network.fits s.roomed,
       )
 
-module _ (s t : Search) (depth k : ℕ) (grew : Bool) (sent : ℕ) (ready : IsReady s depth) (lt : k < length s.network.links.now) (h : Taking s t depth k grew sent) where
+module _ {s t : Search} {depth k : ℕ} {grew : Bool} {sent : ℕ} (h : Taking s t depth k grew sent) (ready : IsReady s depth) (lt : k < length s.network.links.now) where
   -- one link more
   more : take_link s.network.links.now s.network.lots.now s.network.left.now depth (scan_of grew sent t) k ≡ links_taken s depth (k + 1)
   more =
@@ -91,36 +91,34 @@ module _ (s t : Search) (depth k : ℕ) (grew : Bool) (sent : ℕ) (ready : IsRe
         scan = ap (by_arc s.network.links.now s.network.lots.now s.network.left.now depth (scan_of grew sent t)) (none ∙ found_old) ∙ more;
       }
 
-  module _ (a : Arc) (found : Some a ≡ arc_on_in t depth k) where
-    arc_is : (a.link ≡ k) × LeadsOn s.network.links.now s.network.left.now t.room.now t.marks.now depth a
-    arc_is = arc_some s.network.links.now s.network.left.now t.room.now t.marks.now depth k a (sym (found ∙ found_old))
+  module _ {a : Arc} (found : Some a ≡ arc_on_in t depth k) where
+    arc_is : (a.link ≡ k) × LeadsOn t.network.links.now t.network.left.now t.room.now t.marks.now depth a
+    arc_is = arc_some t.network.links.now t.network.left.now t.room.now t.marks.now depth k a (sym found)
 
-    pub scan_there : a.link < length s.network.links.now
-    scan_there = omega (arith, arc_is.0)
+    pub scan_there : a.link < length t.network.links.now
+    scan_there = omega (arith, arc_is.0, ap (λ (net : Network). length net.links.now) h.network)
 
-    -- the marks are a tree, and where it leads to B the path that it ends is open
-    tree_old : Tree s.network.links.now s.network.lots.now t.marks.now
-    tree_old = (scan_state s depth ready k (omega arith) (scan_of grew sent t) h.scan).tree
+    pub scan_leads : leads_on_in t depth a ≡ true
+    scan_leads = arc_leads t.network.links.now t.network.left.now t.room.now t.marks.now depth k a (sym found)
 
-    pub scan_tree : IsTree t
-    scan_tree = subst (λ (net : Network). Tree net.links.now net.lots.now t.marks.now) (sym h.network) tree_old
+    -- where it leads to B, the path that it ends is open
+    pub scan_open : get_or s.network.lots.now (head s.network.links.now a) 0 ≡ 2 → IsOpen t (least_room_in t a) (path_to t a)
+    scan_open goal =
+        let here = ap (λ (net : Network). get_or net.lots.now (head net.links.now a) 0) h.network ∙ goal in
+        subst (λ n. Open t.network.links.now t.network.left.now t.room.now (least_room t.network.left.now t.room.now a (path_before t.network.links.now t.marks.now n a)) (a ∷ path_before t.network.links.now t.marks.now n a))
+        (sym arc_is.1.here)
+        (way_by t.network.links.now t.network.lots.now t.marks.now t.tree t.network.left.now t.room.now depth a ready.deep scan_there arc_is.1 here).clear
 
+    -- the path as the theory has it
     path_is : path_to t a ≡ a ∷ path_before s.network.links.now t.marks.now depth a
     path_is =
-        ap (λ (net : Network). a ∷ path_before net.links.now t.marks.now (level_of t.marks.now (tail net.links.now a)) a) h.network
-        ∙ ap (λ n. a ∷ path_before s.network.links.now t.marks.now n a) arc_is.1.here
+        ap (λ n. a ∷ path_before t.network.links.now t.marks.now n a) arc_is.1.here
+        ∙ ap (λ (net : Network). a ∷ path_before net.links.now t.marks.now depth a) h.network
 
     least_is : least_room_in t a ≡ least_room s.network.left.now t.room.now a (path_before s.network.links.now t.marks.now depth a)
     least_is =
-        ap (λ (net : Network). least_room net.left.now t.room.now a (path_before net.links.now t.marks.now (level_of t.marks.now (tail net.links.now a)) a)) h.network
-        ∙ ap (λ n. least_room s.network.left.now t.room.now a (path_before s.network.links.now t.marks.now n a)) arc_is.1.here
-
-    pub scan_open : get_or s.network.lots.now (head s.network.links.now a) 0 ≡ 2 → IsOpen t (least_room_in t a) (path_to t a)
-    scan_open goal =
-        rw (path_is, least_is)
-        (subst (λ (net : Network). Open net.links.now net.left.now t.room.now (least_room s.network.left.now t.room.now a (path_before s.network.links.now t.marks.now depth a)) (a ∷ path_before s.network.links.now t.marks.now depth a))
-        (sym h.network)
-        (way_by s.network.links.now s.network.lots.now t.marks.now tree_old s.network.left.now t.room.now depth a ready.deep scan_there arc_is.1 goal).clear)
+        ap (λ n. least_room t.network.left.now t.room.now a (path_before t.network.links.now t.marks.now n a)) arc_is.1.here
+        ∙ ap (λ (net : Network). least_room net.left.now t.room.now a (path_before net.links.now t.marks.now depth a)) h.network
 
     taken : (b : Bool) → (get_or s.network.lots.now (head s.network.links.now a) 0 == 2) ≡ b
         → cond b (sent_by s.network.links.now s.network.left.now depth (scan_of grew sent t) a) (reached_by s.network.links.now depth (scan_of grew sent t) a)
@@ -129,9 +127,9 @@ module _ (s t : Search) (depth k : ℕ) (grew : Bool) (sent : ℕ) (ready : IsRe
         sym (ap (λ x. cond x (sent_by s.network.links.now s.network.left.now depth (scan_of grew sent t) a) (reached_by s.network.links.now depth (scan_of grew sent t) a)) e)
         ∙ ap (by_arc s.network.links.now s.network.lots.now s.network.left.now depth (scan_of grew sent t)) (found ∙ found_old) ∙ more
 
-    pub scan_send : get_or s.network.lots.now (head s.network.links.now a) 0 ≡ 2 → (t' : Search) (d : ℕ) → d ≡ least_room_in t a
+    pub scan_send : get_or s.network.lots.now (head s.network.links.now a) 0 ≡ 2 → {t' : Search} {d : ℕ} → d ≡ least_room_in t a
         → Sends t t' d (path_to t a) → Taking s t' depth (k + 1) grew (sent + d)
-    scan_send goal t' d amount q =
+    scan_send goal {t'} {d} amount q =
         let least : d ≡ least_room s.network.left.now t.room.now a (path_before s.network.links.now t.marks.now depth a) = amount ∙ least_is in
         record {
           network = q.network ∙ h.network;
@@ -140,9 +138,9 @@ module _ (s t : Search) (depth k : ℕ) (grew : Bool) (sent : ℕ) (ready : IsRe
               ∙ taken true (eq-eqb (get_or s.network.lots.now (head s.network.links.now a) 0) 2 goal);
         }
 
-    pub scan_reach : (get_or s.network.lots.now (head s.network.links.now a) 0 ≡ 2 → ⊥) → (t' : Search) → Reaches t t' depth a
+    pub scan_reach : (get_or s.network.lots.now (head s.network.links.now a) 0 ≡ 2 → ⊥) → {t' : Search} → Reaches t t' depth a
         → Taking s t' depth (k + 1) true sent
-    scan_reach free t' q =
+    scan_reach free {t'} q =
         record {
           network = q.network ∙ h.network;
           scan = scan_same refl refl q.room
@@ -174,12 +172,12 @@ first_level s t n all same room marks =
           (first_ready t.network.links.now t.network.lots.now t.network.left.now t.network.fits.ends t.room.now);
     }
 
-pub no_level : (s t : Search) (n depth : ℕ) → n ≡ 0 → Seeking s t n depth → Searches s t 0
-no_level s t n depth none h =
+pub no_level : {s t : Search} {n depth : ℕ} → Seeking s t n depth → n ≡ 0 → Searches s t 0
+no_level {t = t} {depth = depth} h none =
     let end = sym (ap (λ i. search_on t i depth) none) ∙ h.goes_on in
     record { network = h.network; sent = ap (λ (x : Scan). x.sent) end; room = ap (λ (x : Scan). x.room) end }
 
-module _ (s t t' : Search) (n more depth : ℕ) (grew : Bool) (sent : ℕ) (e : n ≡ suc more) (h : Seeking s t n depth) (q : Scans t t' depth grew sent) where
+module _ {s t t' : Search} {n depth : ℕ} {grew : Bool} {sent : ℕ} (h : Seeking s t n depth) (q : Scans t t' depth grew sent) (more : ℕ) (e : n ≡ suc more) where
   -- the search from this level, by whether it goes on
   by_going : (b : Bool) → (grew && (sent == 0)) ≡ b
       → (elim b [
@@ -210,5 +208,5 @@ module _ (s t t' : Search) (n more depth : ℕ) (grew : Bool) (sent : ℕ) (e : 
             ∙ by_going true goes ∙ h.goes_on;
         ready = subst (λ (net : Network). Ready net.links.now net.lots.now net.left.now (depth + 1) t'.room.now t'.marks.now) (sym q.network)
             (next_ready t.network.links.now t.network.lots.now t.network.left.now t.network.fits.ends depth (blank (length t.network.lots.now) t.marks.now) h.ready.deep t.room.now (scan_of grew sent t')
-            (scan_state t depth h.ready (length t.network.links.now) (omega arith) (scan_of grew sent t') q.scan) (eqb-true sent 0 (and_parts grew (sent == 0) goes).1));
+            (scan_state t depth (length t.network.links.now) h.ready (omega arith) q.scan) (eqb-true sent 0 (and_parts grew (sent == 0) goes).1));
       }

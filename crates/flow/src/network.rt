@@ -1,8 +1,9 @@
 // What a search reads, and what it changes. This file has the structs alone, since a file of specs/ that names them cannot be
 // imported here.
-ghost use Rattle.std.specs.Prelude.{◌≡◌, length};
+ghost use Rattle.std.specs.Prelude.{length};
+ghost use Rattle.std.proofs.Props.{props};
 ghost use Rattle.flows.specs.Rounds.{Roomed};
-ghost use Rattle.flows.specs.Trees.{IsNetwork};
+ghost use Rattle.flows.specs.Trees.{IsNetwork, Tree};
 
 use flows::Mark;
 use parish::Link;
@@ -24,5 +25,5 @@ pub(crate) struct Search<'n, 'a> {
     pub(crate) room: &'a mut [u32],
     pub(crate) marks: &'a mut [Option<Mark>],
     ghost roomed: { Roomed network.links.now network.left.now room.now },
-    ghost marked: { length marks.now ≡ length network.lots.now },
+    ghost tree: { Tree network.links.now network.lots.now marks.now } by { Prim.hlevel props },
 }

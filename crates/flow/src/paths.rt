@@ -2,7 +2,7 @@
 ghost use Rattle.std.specs.Prelude.{◌≡◌, ◌<◌, min, length};
 ghost use Rattle.flows.specs.Paths.{tail};
 ghost use Rattle.flows.specs.Levels.{arc_to};
-ghost use Rattle.flow.specs.Searching.{room_in, least_room_in, path_to, IsTree, IsOpen, Sends};
+ghost use Rattle.flow.specs.Searching.{room_in, least_room_in, path_to, IsOpen, Sends};
 
 use super::network::Search;
 use flows::Arc;
@@ -26,8 +26,7 @@ impl Search<'_, '_> {
 
     // The least room along the path that an arc ends.
     fn least_room(&self, last: Arc) -> u32
-        requires tree { IsTree self.now }
-        requires there { last.link < length self.now.network.links.now }
+        requires { last.link < length self.now.network.links.now }
         ensures { result ≡ least_room_in self.now last }
     {
         let mut least = self.room_along(last);
@@ -40,9 +39,9 @@ impl Search<'_, '_> {
     }
 
     // Sends an amount along the path that an arc ends.
+    // The same walk again: an iterator over the arcs would keep the search lent while it changes.
     fn send_back(&mut self, last: Arc, amount: u32)
-        requires tree { IsTree self.old }
-        requires open { IsOpen self.old amount (path_to self.old last) }
+        requires { IsOpen self.old amount (path_to self.old last) }
         ensures { Sends self.old self.new amount (path_to self.old last) }
     {
         let mut next = Some(last);
@@ -54,8 +53,7 @@ impl Search<'_, '_> {
 
     // Sends as much as there is room for along the path that an arc ends, and answers how much.
     pub(crate) fn send_most(&mut self, last: Arc) -> u32
-        requires tree { IsTree self.old }
-        requires open { IsOpen self.old (least_room_in self.old last) (path_to self.old last) }
+        requires { IsOpen self.old (least_room_in self.old last) (path_to self.old last) }
         ensures amount { result ≡ least_room_in self.old last }
         ensures after { Sends self.old self.new result (path_to self.old last) }
     {

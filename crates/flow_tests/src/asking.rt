@@ -30,34 +30,13 @@ pub(super) fn tells<B: LowerBound>(
     number: u32,
     charges: &[u32],
 ) -> Result<(), Fail> {
-    tells_under(rt, bound, parish, 0, lots, number, charges, "at cap 0")?;
-    tells_under(
-        rt,
-        bound,
-        parish,
-        u32::MAX,
-        lots,
-        number,
-        charges,
-        "at the largest cap",
-    )
-}
-
-fn tells_under<B: LowerBound>(
-    rt: &impl Abort,
-    bound: &B,
-    parish: &Parish,
-    cap: u32,
-    lots: &[u8],
-    number: u32,
-    charges: &[u32],
-    case: &str,
-) -> Result<(), Fail> {
     assert!(rt; charges.len() <= MOST_LINKS);
-    let mut scratch = [9; MOST_LINKS];
-    let told = &mut scratch[0..charges.len()];
-    assert_eq!(rt; bound.consult(parish, cap, lots, told)?, number, "{case}");
-    assert!(rt; &told[..] == charges, "{case}: charges");
+    for (cap, case) in [(0, "at cap 0"), (u32::MAX, "at the largest cap")] {
+        let mut scratch = [9; MOST_LINKS];
+        let told = &mut scratch[0..charges.len()];
+        assert_eq!(rt; bound.consult(parish, cap, lots, told)?, number, "{case}");
+        assert!(rt; &told[..] == charges, "{case}: charges");
+    }
     Ok(())
 }
 

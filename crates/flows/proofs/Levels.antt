@@ -2,7 +2,7 @@
 -- Assumes nothing.
 use Rattle.std.proofs.Common.{◌≡◌, ℕ, zero, suc, ◌+◌, ◌-◌, ◌<◌, ◌≤◌, Bool, true, false, cond, ◌&&◌, eqb, ltb, List, [], ◌∷◌, length, get_or, set, Some, None, Option, option_and_then, is_none, sym, refl, ap, ◌∙◌, subst, inl, inr, arith, length-set, get_or-set_other, get_or-set_same}
 use Rattle.std.specs.List.{AllByRecursion}
-use Rattle.std.specs.Option.{option_map_or}
+use Rattle.std.specs.Option.{option_map_or, IsSomeAnd}
 use Rattle.std.proofs.ByRecursion.{All-weaker}
 use Rattle.std.proofs.lemmas.Bool.{cases_eq, ne_eqb, eqb-true, ltb-true, and_parts, false≢true, cond_both, eq-eqb}
 use Rattle.std.proofs.lemmas.Bool.Decides.{nat_tests}
@@ -45,7 +45,7 @@ not_fresh (Some m) None r d deep ranked e h some = fresh_not m.level e h
     fresh_not x e h = grind (arith, nat_tests)
 
 module _ (ls : List Link) (left room : List ℕ) (marks : List (Option Mark)) (depth : ℕ) where
-  on_true : (a : Arc) → leads_on ls left room marks depth a ≡ true → LeadsOn ls left room marks depth a
+  pub on_true : (a : Arc) → leads_on ls left room marks depth a ≡ true → LeadsOn ls left room marks depth a
   on_true a e =
       let p = and_parts (is_at marks depth (tail ls a)) (is_none (mark_of marks (head ls a)) && ltb 0 (room_of left room a)) e in
       let q = and_parts (is_none (mark_of marks (head ls a))) (ltb 0 (room_of left room a)) p.1 in
@@ -61,27 +61,33 @@ module _ (ls : List Link) (left room : List ℕ) (marks : List (Option Mark)) (d
       → (P : Arc → Type 0) → (s ≡ true → P x) → (t ≡ true → P y) → P a
   by_tests true t x y a e P f g = let same : x ≡ a = cc in subst P same (f refl)
   by_tests false true x y a e P f g = let same : y ≡ a = cc in subst P same (g refl)
-  by_tests false false x y a e P f g = absurd (let z : ◌≡◌ {A = ℕ} 0 1 = cc in omega arith)
+  by_tests false false x y a e P f g = absurd cc
 
   none_tests : (s t : Bool) (x y : Arc) → cond s (Some x) (cond t (Some y) None) ≡ None → (s ≡ false) × (t ≡ false)
-  none_tests true t x y e = absurd (let z : ◌≡◌ {A = ℕ} 0 1 = cc in omega arith)
-  none_tests false true x y e = absurd (let z : ◌≡◌ {A = ℕ} 0 1 = cc in omega arith)
+  none_tests true t x y e = absurd cc
+  none_tests false true x y e = absurd cc
   none_tests false false x y e = (refl, refl)
+
+  -- a link gone one way or the other
+  abbrev way : ℕ → Bool → Arc
+  way k o = record { link = k; onward = o }
 
   pub arc_some : (k : ℕ) (a : Arc) → arc_on ls left room marks depth k ≡ Some a → (a.link ≡ k) × LeadsOn ls left room marks depth a
   arc_some k a e =
-      by_tests (leads_on ls left room marks depth (record { link = k; onward = true })) (leads_on ls left room marks depth (record { link = k; onward = false }))
-      (record { link = k; onward = true }) (record { link = k; onward = false }) a e (λ b. (b.link ≡ k) × LeadsOn ls left room marks depth b)
-      (λ q. (refl, on_true (record { link = k; onward = true }) q)) (λ q. (refl, on_true (record { link = k; onward = false }) q))
+      by_tests (leads_on ls left room marks depth (way k true)) (leads_on ls left room marks depth (way k false)) (way k true) (way k false) a e
+      (λ b. (b.link ≡ k) × LeadsOn ls left room marks depth b) (λ q. (refl, on_true (way k true) q)) (λ q. (refl, on_true (way k false) q))
+
+  -- and it leads on
+  pub arc_leads : (k : ℕ) (a : Arc) → arc_on ls left room marks depth k ≡ Some a → leads_on ls left room marks depth a ≡ true
+  arc_leads k a e =
+      by_tests (leads_on ls left room marks depth (way k true)) (leads_on ls left room marks depth (way k false)) (way k true) (way k false) a e
+      (λ b. leads_on ls left room marks depth b ≡ true) (λ q. q) (λ q. q)
 
   module _ (deep : 1 ≤ depth) (ranked : (v : ℕ) (m : Mark) → mark_of marks v ≡ Some m → 1 ≤ m.level) where
     pub arc_none : (k : ℕ) → arc_on ls left room marks depth k ≡ None → (o : Bool) → Covered ls left room marks depth (record { link = k; onward = o })
-    arc_none k e true =
-        on_false deep ranked (record { link = k; onward = true })
-        (none_tests (leads_on ls left room marks depth (record { link = k; onward = true })) (leads_on ls left room marks depth (record { link = k; onward = false })) (record { link = k; onward = true }) (record { link = k; onward = false }) e).0
-    arc_none k e false =
-        on_false deep ranked (record { link = k; onward = false })
-        (none_tests (leads_on ls left room marks depth (record { link = k; onward = true })) (leads_on ls left room marks depth (record { link = k; onward = false })) (record { link = k; onward = true }) (record { link = k; onward = false }) e).1
+    arc_none k e o =
+        let none = none_tests (leads_on ls left room marks depth (way k true)) (leads_on ls left room marks depth (way k false)) (way k true) (way k false) e in
+        on_false deep ranked (way k o) (elim o as (λ x. leads_on ls left room marks depth (way k x) ≡ false) [ true ↦ none.0 | false ↦ none.1 ])
 
 -- one end of a link, and both
 one_end : (o : Bool) (x y : ℕ) (P : ℕ → Type 0) → P x → P y → P (cond o x y)
@@ -90,6 +96,41 @@ one_end o x y P h g = cond_both o x y P (λ _. h) (λ _. g)
 both_ends : (o : Bool) (x y : ℕ) (P : ℕ → Type 0) → P (cond o x y) → P (cond o y x) → P x × P y
 both_ends true x y P h g = (h, g)
 both_ends false x y P h g = (g, h)
+
+-- the arc by which a household was reached, from the level before
+pub record Step (ls : List Link) (marks : List (Option Mark)) (v d : ℕ) : Type 0 where
+  pub arc : Arc
+  pub is : arc_to marks v ≡ Some arc
+  pub there : arc.link < length ls
+  pub heads : head ls arc ≡ v
+  pub above : level_of marks (tail ls arc) ≡ suc d
+
+pub step_to : {ls : List Link} {lots : List ℕ} {marks : List (Option Mark)} → Tree ls lots marks → (v d : ℕ) → level_of marks v ≡ suc (suc d) → Step ls marks v d
+step_to {ls} {lots} {marks} t v d e = by (arc_to marks v) refl (t.linked v d e)
+  where
+    by : (o : Option Arc) → arc_to marks v ≡ o → IsSomeAnd o (Parent ls marks v d) → Step ls marks v d
+    by None is h = absurd h
+    by (Some a) is h = record { arc = a; is = is; there = h.there; heads = h.heads; above = h.above }
+
+linked_by : {ls : List Link} {marks : List (Option Mark)} {v d : ℕ} → Step ls marks v d → IsSomeAnd (arc_to marks v) (Parent ls marks v d)
+linked_by {ls} {marks} {v} {d} p =
+    let parent : Parent ls marks v d p.arc = record { there = p.there; heads = p.heads; above = p.above } in
+    subst (λ (o : Option Arc). IsSomeAnd o (Parent ls marks v d)) (sym p.is) parent
+
+-- where no household is reached, the marks are a tree
+pub tree_none : (ls : List Link) (lots : List ℕ) (marks : List (Option Mark)) → length marks ≡ length lots → ((v : ℕ) → mark_of marks v ≡ None)
+    → Tree ls lots marks
+tree_none ls lots marks long none =
+    record {
+      long = long;
+      first = λ v e. absurd (omega (arith, zero_at v));
+      ranked = λ v m e. absurd (let z = sym (none v) ∙ e in cc);
+      roots = λ v e. ap (λ (o : Option Mark). option_and_then (λ m. m.arc) o) (none v);
+      linked = λ v d e. absurd (omega (arith, zero_at v));
+    }
+  where
+    zero_at : (v : ℕ) → level_of marks v ≡ 0
+    zero_at v = ap (λ (o : Option Mark). option_map_or (λ m. m.level) o 0) (none v)
 
 -- ---- how many households are not reached
 
@@ -154,7 +195,7 @@ module _ (ls : List Link) (lots : List ℕ) (marks : List (Option Mark)) (t : Tr
   pub back_to : (d v : ℕ) → level_of marks v ≡ suc d → Back ls lots marks v d (path_back ls marks d v)
   back_to zero v e = record { start = v; from_A = t.first v e; leads = refl; apart = tt; there = tt; low = tt }
   back_to (suc d) v e =
-      let p : Parent ls marks v d = t.linked v d e in
+      let p : Step ls marks v d = step_to t v d e in
       let rest : List Arc = path_back ls marks d (tail ls p.arc) in
       let b : Back ls lots marks (tail ls p.arc) d (path_back ls marks d (tail ls p.arc)) = back_to d (tail ls p.arc) p.above in
       let top : level_of marks (head ls p.arc) ≡ suc (suc d) = ap (level_of marks) p.heads ∙ e in
@@ -177,7 +218,7 @@ module _ (ls : List Link) (lots : List ℕ) (marks : List (Option Mark)) (t : Tr
       → AllByRecursion (λ a. 1 ≤ room_of left room a) (path_back ls marks d v)
   back_roomy left room r zero v e = tt
   back_roomy left room r (suc d) v e =
-      let p : Parent ls marks v d = t.linked v d e in
+      let p : Step ls marks v d = step_to t v d e in
       subst (AllByRecursion (λ a. 1 ≤ room_of left room a)) (sym (path_more ls marks d v p.arc p.is))
       (r v d e p.arc p.is, back_roomy left room r d (tail ls p.arc) p.above)
 
@@ -231,6 +272,9 @@ module _ (ls : List Link) (lots left room : List ℕ) (marks : List (Option Mark
   level_kept : (v : ℕ) → 1 ≤ level_of marks v → level_of marked v ≡ level_of marks v
   level_kept v some = level_other v (λ e. let z : level_of marks v ≡ level_of marks (head ls a) = ap (level_of marks) e in omega (arith, on.unreached))
 
+  pub firsts_more : ((v : ℕ) → get_or lots v 0 ≡ 1 → level_of marks v ≡ 1) → (v : ℕ) → get_or lots v 0 ≡ 1 → level_of marked v ≡ 1
+  firsts_more firsts v e = level_kept v (omega (arith, firsts v e)) ∙ firsts v e
+
   -- a level up to this one is an old one
   old_level : (v e : ℕ) → level_of marked v ≡ e → e ≤ depth → level_of marks v ≡ e
   old_level v e h le =
@@ -259,21 +303,20 @@ module _ (ls : List Link) (lots left room : List ℕ) (marks : List (Option Mark
       record {
         long = length-set marks (head ls a) (Some new_mark) ∙ t.long;
         first = λ v e. t.first v (old_level v 1 e deep);
-        firsts = λ v e. level_kept v (omega (arith, t.firsts v e)) ∙ t.firsts v e;
         ranked = ranked_more;
         roots = λ v e.
             elim (cases_eq v (head ls a)) [
               | inl q ↦ let z : level_of marked v ≡ depth + 1 = ap (level_of marked) q ∙ level_at in absurd (omega arith)
               | inr ne ↦ sym (arc_other v ne) ∙ t.roots v (omega (arith, level_other v ne))
             ];
-        linked = λ v d e.
-            elim (cases_eq v (head ls a)) [
+        linked = λ v d e. linked_by
+            (elim (cases_eq v (head ls a)) [
               | inl q ↦
                   let same : depth ≡ suc d = omega (arith, sym (ap (level_of marked) q ∙ level_at) ∙ e) in
-                  subst (λ u. Parent ls marked u d) (sym q)
+                  subst (λ u. Step ls marked u d) (sym q)
                   (record { arc = a; is = arc_at; there = there; heads = refl; above = level_kept (tail ls a) (omega (arith, on.here)) ∙ on.here ∙ same })
               | inr ne ↦
-                  let p : Parent ls marks v d = t.linked v d (sym (level_other v ne) ∙ e) in
+                  let p : Step ls marks v d = step_to t v d (sym (level_other v ne) ∙ e) in
                   record {
                     arc = p.arc;
                     is = sym (arc_other v ne) ∙ p.is;
@@ -281,7 +324,7 @@ module _ (ls : List Link) (lots left room : List ℕ) (marks : List (Option Mark
                     heads = p.heads;
                     above = level_kept (tail ls p.arc) (omega (arith, p.above)) ∙ p.above;
                   }
-            ];
+            ]);
       }
 
   pub roomy_more : Roomy ls left room marks → Roomy ls left room marked

@@ -12,7 +12,7 @@ use Rattle.flows.specs.Rounds.{Send, Sends, Shut, Searches}
 use Rattle.flows.specs.Levels.{mark_of, level_of, arc_to, level_one, Scan, fresh, goes_on, arc_on, path_before, sent_by, reached_by, by_arc, take_link, take_links, scan_level, search_from, searched, by_levels}
 use Rattle.flows.specs.Trees.{Within, Tree, Roomy, Covered, Ready}
 use Rattle.flows.proofs.Ends.{head_within}
-use Rattle.flows.proofs.Levels.{LeadsOn, arc_some, arc_none, blank, at_most_one, blank_most, blank_none, way_by, way_some, level_at, level_other, tree_more, roomy_more, covered_more, covered_here, blank_more}
+use Rattle.flows.proofs.Levels.{LeadsOn, arc_some, arc_none, blank, at_most_one, blank_most, blank_none, way_by, way_some, level_at, level_other, firsts_more, tree_more, roomy_more, covered_more, covered_here, blank_more}
 
 -- what holds of a level's links while nothing is sent, up to link k
 pub record Idle (ls : List Link) (left : List ℕ) (depth : ℕ) (before room : List ℕ) (marks : List (Option Mark)) (k : ℕ) : Type 0 where
@@ -24,6 +24,7 @@ pub record Idle (ls : List Link) (left : List ℕ) (depth : ℕ) (before room : 
 -- what holds before link k of a level is taken; at most so many households were not reached before the level
 pub record Scanning (ls : List Link) (lots left : List ℕ) (depth bound : ℕ) (before : List ℕ) (s : Scan) (k : ℕ) : Type 0 where
   pub tree : Tree ls lots s.marks
+  pub firsts : (v : ℕ) → get_or lots v 0 ≡ 1 → level_of s.marks v ≡ 1
   pub no_goal : (v : ℕ) → 1 ≤ level_of s.marks v → get_or lots v 0 ≡ 2 → ⊥
   pub low : (v : ℕ) → level_of s.marks v ≤ depth + cond s.grew 1 0
   pub fewer : blank (length lots) s.marks + cond s.grew 1 0 ≤ bound
@@ -39,6 +40,7 @@ module _ (ls : List Link) (lots left : List ℕ) (within : Within (length lots) 
     pass here =
         record {
           tree = h.tree;
+          firsts = h.firsts;
           no_goal = h.no_goal;
           low = h.low;
           fewer = h.fewer;
@@ -72,6 +74,7 @@ module _ (ls : List Link) (lots left : List ℕ) (within : Within (length lots) 
           let other = level_other ls lots left s.room s.marks depth a deep there inside h.tree on in
           record {
             tree = tree_more ls lots left s.room s.marks depth a deep there inside h.tree on;
+            firsts = firsts_more ls lots left s.room s.marks depth a deep there inside h.tree on h.firsts;
             no_goal = λ v some.
                 elim (cases_eq v (head ls a)) [
                   | inl e ↦ λ q. free (ap (λ u. get_or lots u 0) (sym e) ∙ q)
@@ -110,6 +113,7 @@ module _ (ls : List Link) (lots left : List ℕ) (within : Within (length lots) 
           let d : ℕ = least_room left s.room a p in
           record {
             tree = h.tree;
+            firsts = h.firsts;
             no_goal = h.no_goal;
             low = h.low;
             fewer = h.fewer;
@@ -141,6 +145,7 @@ module _ (ls : List Link) (lots left : List ℕ) (within : Within (length lots) 
   scanning depth room marks r zero le =
       record {
         tree = r.tree;
+        firsts = r.firsts;
         no_goal = r.no_goal;
         low = λ v. omega (arith, r.low v);
         fewer = omega arith;
@@ -160,6 +165,7 @@ module _ (ls : List Link) (lots left : List ℕ) (within : Within (length lots) 
       record {
         deep = omega arith;
         tree = h.tree;
+        firsts = h.firsts;
         no_goal = h.no_goal;
         low = λ v. omega (arith, h.low v, at_most_one s.grew);
         roomy = i.roomy;
@@ -172,12 +178,12 @@ module _ (ls : List Link) (lots left : List ℕ) (within : Within (length lots) 
 
   -- ---- all levels
   -- the reached households are a shut side
-  shut_side : (room : List ℕ) (marks : List (Option Mark)) → Tree ls lots marks → ((v : ℕ) → 1 ≤ level_of marks v → get_or lots v 0 ≡ 2 → ⊥)
+  shut_side : (room : List ℕ) (marks : List (Option Mark)) → ((v : ℕ) → get_or lots v 0 ≡ 1 → level_of marks v ≡ 1) → ((v : ℕ) → 1 ≤ level_of marks v → get_or lots v 0 ≡ 2 → ⊥)
       → ((a : Arc) → a.link < length ls → 1 ≤ level_of marks (tail ls a) → 1 ≤ room_of left room a → 1 ≤ level_of marks (head ls a)) → Shut ls lots left room
-  shut_side room marks t no_goal closed =
+  shut_side room marks firsts no_goal closed =
       record {
         side = λ v. ltb 0 (level_of marks v);
-        has_A = λ v e. lt-ltb 0 (level_of marks v) (omega (arith, t.firsts v e));
+        has_A = λ v e. lt-ltb 0 (level_of marks v) (omega (arith, firsts v e));
         lacks_B = λ v e. le-ltb 0 (level_of marks v) (elim (cases_lt 0 (level_of marks v)) [ inl some ↦ absurd (no_goal v some e) | inr none ↦ none ]);
         full = λ a there x y. one (level_of marks (tail ls a)) (level_of marks (head ls a)) (room_of left room a) (closed a there) x y;
       }
@@ -195,44 +201,49 @@ module _ (ls : List Link) (lots left : List ℕ) (within : Within (length lots) 
     pub sends : Sends ls lots left before list s.sent s.room
     pub ends : s.sent ≡ 0 → Shut ls lots left s.room
 
+  -- a level is scanned: the search goes on to the next, or ends
+  module _ (more depth : ℕ) (room : List ℕ) (marks : List (Option Mark)) (r : Ready ls lots left depth room marks) (few : blank (length lots) marks ≤ suc more)
+      (s : Scan) (h : Scanning ls lots left depth (blank (length lots) marks) room s (length ls))
+      (next : (after : List ℕ) (ms : List (Option Mark)) → Ready ls lots left (depth + 1) after ms → blank (length lots) ms ≤ more
+      → Found after (search_from ls lots left more (depth + 1) after ms)) where
+    ready_next : s.sent ≡ 0 → Ready ls lots left (depth + 1) s.room s.marks
+    ready_next z = next_ready depth (blank (length lots) marks) r.deep room s h z
+
+    found_by : (b : Bool) → goes_on s ≡ b → Found room (elim b [
+      | true ↦ search_from ls lots left more (depth + 1) s.room s.marks
+      | false ↦ s
+    ])
+    found_by true e =
+        let p = and_parts s.grew (eqb s.sent 0) e in
+        let z : s.sent ≡ 0 = eqb-true s.sent 0 p.1 in
+        let one : ◌≡◌ {A = ℕ} (cond s.grew 1 0) 1 = ap (λ b. cond b 1 0) p.0 in
+        subst (λ x. Found x (search_from ls lots left more (depth + 1) s.room s.marks)) (h.idle z).same
+        (next s.room s.marks (ready_next z) (omega (arith, h.fewer)))
+    found_by false e =
+        record {
+          list = h.list;
+          sends = h.sends;
+          ends = λ z.
+              let n = ready_next z in
+              let none : ◌≡◌ {A = ℕ} (cond s.grew 1 0) 0 = stuck s.grew s.sent e z in
+              shut_side s.room s.marks n.firsts n.no_goal (λ a there some. n.covered (level_of s.marks (tail ls a)) some (omega (arith, h.low (tail ls a))) a there refl);
+        }
+      where
+        stuck : (g : Bool) (d : ℕ) → (g && eqb d 0) ≡ false → d ≡ 0 → ◌≡◌ {A = ℕ} (cond g 1 0) 0
+        stuck g d e z = grind (arith, nat_tests)
+
   pub found_from : (more depth : ℕ) (room : List ℕ) (marks : List (Option Mark)) → Ready ls lots left depth room marks → blank (length lots) marks ≤ more
       → Found room (search_from ls lots left more depth room marks)
   found_from zero depth room marks r few =
       record {
         list = [];
         sends = (refl, refl);
-        ends = λ z. shut_side room marks r.tree r.no_goal
+        ends = λ z. shut_side room marks r.firsts r.no_goal
             (λ a there some open'. blank_none (length lots) marks (head ls a) few (head_within (length lots) ls a within there));
       }
   found_from (suc more) depth room marks r few =
-      let s : Scan = scan_level ls lots left depth room marks in
-      let h : Scanning ls lots left depth (blank (length lots) marks) room (scan_level ls lots left depth room marks) (length ls) = scanning depth room marks r (length ls) (omega arith) in
-      elim (goes_on (scan_level ls lots left depth room marks))
-      as (λ b. goes_on (scan_level ls lots left depth room marks) ≡ b → Found room (elim b [
-        | true ↦ search_from ls lots left more (depth + 1) (scan_level ls lots left depth room marks).room (scan_level ls lots left depth room marks).marks
-        | false ↦ scan_level ls lots left depth room marks
-      ])) [
-        | true ↦ λ e.
-            let p = and_parts (scan_level ls lots left depth room marks).grew (eqb (scan_level ls lots left depth room marks).sent 0) e in
-            let z : (scan_level ls lots left depth room marks).sent ≡ 0 = eqb-true (scan_level ls lots left depth room marks).sent 0 p.1 in
-            let one : ◌≡◌ {A = ℕ} (cond (scan_level ls lots left depth room marks).grew 1 0) 1 = ap (λ b. cond b 1 0) p.0 in
-            subst (λ x. Found x (search_from ls lots left more (depth + 1) (scan_level ls lots left depth room marks).room (scan_level ls lots left depth room marks).marks)) (h.idle z).same
-            (found_from more (depth + 1) (scan_level ls lots left depth room marks).room (scan_level ls lots left depth room marks).marks
-            (next_ready depth (blank (length lots) marks) r.deep room (scan_level ls lots left depth room marks) h z) (omega (arith, h.fewer)))
-        | false ↦ λ e.
-            record {
-              list = h.list;
-              sends = h.sends;
-              ends = λ z.
-                  let n = next_ready depth (blank (length lots) marks) r.deep room (scan_level ls lots left depth room marks) h z in
-                  let none : ◌≡◌ {A = ℕ} (cond (scan_level ls lots left depth room marks).grew 1 0) 0 = stuck (scan_level ls lots left depth room marks).grew (scan_level ls lots left depth room marks).sent e z in
-                  shut_side (scan_level ls lots left depth room marks).room (scan_level ls lots left depth room marks).marks n.tree n.no_goal
-                  (λ a there some. n.covered (level_of (scan_level ls lots left depth room marks).marks (tail ls a)) some (omega (arith, h.low (tail ls a))) a there refl);
-            }
-      ] refl
-    where
-      stuck : (g : Bool) (d : ℕ) → (g && eqb d 0) ≡ false → d ≡ 0 → ◌≡◌ {A = ℕ} (cond g 1 0) 0
-      stuck g d e z = grind (arith, nat_tests)
+      found_by more depth room marks r few (scan_level ls lots left depth room marks) (scanning depth room marks r (length ls) (omega arith))
+      (λ after ms ready fewer. found_from more (depth + 1) after ms ready fewer) (goes_on (scan_level ls lots left depth room marks)) refl
 
   -- ---- from the first level on
   pub first_ready : (room : List ℕ) → Ready ls lots left 1 room (level_one lots)
@@ -242,11 +253,11 @@ module _ (ls : List Link) (lots left : List ℕ) (within : Within (length lots) 
         tree = record {
           long = length-map lots (λ x. cond (eqb x 1) (Some (record { level = 1; arc = None })) None);
           first = λ v e. is_one (get_or lots v 0) (sym (first_at lots v) ∙ e);
-          firsts = λ v e. first_at lots v ∙ ap (λ b. cond b 1 0) (eq-eqb (get_or lots v 0) 1 e);
           ranked = ranked_at lots;
           roots = λ v e. no_arc lots v;
           linked = λ v d e. absurd (omega (arith, first_at lots v, at_most_one (eqb (get_or lots v 0) 1)));
         };
+        firsts = λ v e. first_at lots v ∙ ap (λ b. cond b 1 0) (eq-eqb (get_or lots v 0) 1 e);
         no_goal = λ v some e. let z : ◌≡◌ {A = ℕ} (cond (eqb (get_or lots v 0) 1) 1 0) 0 = ap (λ b. cond b 1 0) (ne_eqb (get_or lots v 0) 1 (λ q. omega arith)) in omega (arith, first_at lots v);
         low = λ v. omega (arith, first_at lots v, at_most_one (eqb (get_or lots v 0) 1));
         roomy = λ v d e. absurd (omega (arith, first_at lots v, at_most_one (eqb (get_or lots v 0) 1)));

@@ -1,5 +1,6 @@
 -- What holds of the marks of a search before each level is scanned. Assumes nothing.
 use Rattle.std.specs.Prelude.{◌≡◌, ℕ, suc, ◌<◌, ◌≤◌, List, length, ◌≢◌, Some, None, Option, slice_index}
+use Rattle.std.specs.Option.{IsSomeAnd}
 use Rattle.parish.specs.Limits.{most_households, most_links, strongest_held}
 use Rattle.parish.specs.declared.items.Link.{Link}
 use Rattle.flows.specs.declared.items.Arc.{Arc}
@@ -20,22 +21,19 @@ pub record IsNetwork (ls : List Link) (left : List ℕ) (n : ℕ) : Type 0 where
   pub left_long : length left ≡ length ls
   pub small : (k : ℕ) → slice_index left k ≤ strongest_held
 
--- a household at level d + 2 was reached by an arc from one at level d + 1
-pub record Parent (ls : List Link) (marks : List (Option Mark)) (v d : ℕ) : Type 0 where
-  pub arc : Arc
-  pub is : arc_to marks v ≡ Some arc
-  pub there : arc.link < length ls
-  pub heads : head ls arc ≡ v
-  pub above : level_of marks (tail ls arc) ≡ suc d
+-- an arc leads from a household at level d + 1 to household v
+pub record Parent (ls : List Link) (marks : List (Option Mark)) (v d : ℕ) (a : Arc) : Type 0 where
+  pub there : a.link < length ls
+  pub heads : head ls a ≡ v
+  pub above : level_of marks (tail ls a) ≡ suc d
 
--- levels are counted from 1: the first has just the households set in A, and each later one was reached from the level before it
+-- levels are counted from 1: households of the first are set in A, and each later one was reached from the level before it
 pub record Tree (ls : List Link) (lots : List ℕ) (marks : List (Option Mark)) : Type 0 where
   pub long : length marks ≡ length lots
   pub first : (v : ℕ) → level_of marks v ≡ 1 → slice_index lots v ≡ 1
-  pub firsts : (v : ℕ) → slice_index lots v ≡ 1 → level_of marks v ≡ 1
   pub ranked : (v : ℕ) (m : Mark) → mark_of marks v ≡ Some m → 1 ≤ m.level
   pub roots : (v : ℕ) → level_of marks v ≤ 1 → arc_to marks v ≡ None
-  pub linked : (v d : ℕ) → level_of marks v ≡ suc (suc d) → Parent ls marks v d
+  pub linked : (v d : ℕ) → level_of marks v ≡ suc (suc d) → IsSomeAnd (arc_to marks v) (Parent ls marks v d)
 
 -- each arc by which a household was reached has room
 abbrev pub Roomy : List Link → List ℕ → List ℕ → List (Option Mark) → Type 0
@@ -45,10 +43,11 @@ Roomy ls left room marks = (v d : ℕ) → level_of marks v ≡ suc (suc d) → 
 abbrev pub Covered : List Link → List ℕ → List ℕ → List (Option Mark) → ℕ → Arc → Type 0
 Covered ls left room marks e a = level_of marks (tail ls a) ≡ e → 1 ≤ room_of left room a → 1 ≤ level_of marks (head ls a)
 
--- before a level is scanned, all levels before it are, and no household of B is reached
+-- before a level is scanned, all levels before it are, the first has all of A, and no household of B is reached
 pub record Ready (ls : List Link) (lots left : List ℕ) (depth : ℕ) (room : List ℕ) (marks : List (Option Mark)) : Type 0 where
   pub deep : 1 ≤ depth
   pub tree : Tree ls lots marks
+  pub firsts : (v : ℕ) → slice_index lots v ≡ 1 → level_of marks v ≡ 1
   pub no_goal : (v : ℕ) → 1 ≤ level_of marks v → slice_index lots v ≢ 2
   pub low : (v : ℕ) → level_of marks v ≤ depth
   pub roomy : Roomy ls left room marks

@@ -1,25 +1,24 @@
 use Rattle.std.proofs.Common.{◌+◌, ◌-◌, length, sym, refl, ◌∙◌, arith}
+use Rattle.flow.proofs.Marks.{first_tree}
 use Rattle.flow.proofs.Scanned.{first_level, no_level, level_stops, level_goes}
 use Rattle.flow.proofs.network.Search.search.Goals as goal
+
+pub invariant_of-self-clause-tree : goal.invariant_of-self-clause-tree
+invariant_of-self-clause-tree c = rw c.mark_first.ensures (first_tree c.args.self.now)
 
 pub loop-depth-init : goal.loop-depth-init
 loop-depth-init c = first_level c.args.self.now _ _ (omega arith) refl refl c.mark_first.ensures
 
 pub returns-then-not-goes_on : goal.returns-then-not-goes_on
 returns-then-not-goes_on c =
-    level_stops c.args.self.now c.loop-depth.self c.scan_level-level.new.self
-    (length c.args.self.now.network.lots.now + 1 - c.loop-depth.depth) (length c.args.self.now.network.lots.now - c.loop-depth.depth) c.loop-depth.depth
-    c.scan_level-level.result.grew c.scan_level-level.result.sent (omega arith) c.loop-depth.invariant c.scan_level-level.ensures (sym c.goes_on.ensures ∙ c.if-not-goes_on.true)
+    level_stops c.loop-depth.invariant c.scan_level-level.ensures (length c.args.self.now.network.lots.now - c.loop-depth.depth) (omega arith)
+    (sym c.goes_on.ensures ∙ c.if-not-goes_on.true)
 
 pub loop-depth-preserved : goal.loop-depth-preserved
 loop-depth-preserved c =
-    level_goes c.args.self.now c.loop-depth.self c.scan_level-level.new.self
-    (length c.args.self.now.network.lots.now + 1 - c.loop-depth.depth) (length c.args.self.now.network.lots.now + 1 - (c.loop-depth.depth + 1)) c.loop-depth.depth
-    c.scan_level-level.result.grew c.scan_level-level.result.sent (omega arith) c.loop-depth.invariant c.scan_level-level.ensures (sym c.goes_on.ensures ∙ c.if-not-goes_on.false)
+    level_goes c.loop-depth.invariant c.scan_level-level.ensures (length c.args.self.now.network.lots.now + 1 - (c.loop-depth.depth + 1)) (omega arith)
+    (sym c.goes_on.ensures ∙ c.if-not-goes_on.false)
 
 pub returns-else-not-goes_on : goal.returns-else-not-goes_on
 returns-else-not-goes_on c =
-    no_level c.args.self.now c.scan_level-level.new.self 0 (c.loop-depth.depth + 1) refl
-    (level_goes c.args.self.now c.loop-depth.self c.scan_level-level.new.self
-    (length c.args.self.now.network.lots.now + 1 - c.loop-depth.depth) 0 c.loop-depth.depth
-    c.scan_level-level.result.grew c.scan_level-level.result.sent (omega arith) c.loop-depth.invariant c.scan_level-level.ensures (sym c.goes_on.ensures ∙ c.if-not-goes_on.false))
+    no_level (level_goes c.loop-depth.invariant c.scan_level-level.ensures 0 (omega arith) (sym c.goes_on.ensures ∙ c.if-not-goes_on.false)) refl

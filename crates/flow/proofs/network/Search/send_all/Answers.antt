@@ -1,6 +1,6 @@
 use Rattle.std.proofs.Common.{◌+◌, ◌*◌, ◌≤◌, arith, rules}
 use Rattle.parish.specs.Limits.{most_links, strongest_held}
-use Rattle.flow.proofs.Sent.{same_network, first_round, next_most, next_small, next_round, last_least, last_chosen}
+use Rattle.flow.proofs.Sent.{first_round, next_most, next_small, next_round, last_round}
 use Rattle.flow.proofs.network.Search.send_all.Goals as goal
 
 pub loop-total-init : goal.loop-total-init
@@ -8,30 +8,14 @@ loop-total-init c = first_round c.args.self.now c.requires.unused
 
 pub overflow_add-total : goal.overflow_add-total
 overflow_add-total c =
-    let fits : c.loop-total.total + c.search-sent.result ≤ strongest_held * most_links =
-    next_small c.args.self.now c.loop-total.self c.search-sent.new.self c.loop-total.total c.search-sent.result c.loop-total.invariant c.search-sent.ensures in
+    let fits : c.loop-total.total + c.search-sent.result ≤ strongest_held * most_links = next_small c.loop-total.invariant c.search-sent.ensures in
     search rules
 
 pub loop-total-smaller : goal.loop-total-smaller
-loop-total-smaller c =
-    omega (
-      arith,
-      c.if-sent-eq0.false,
-      next_most c.args.self.now c.loop-total.self c.search-sent.new.self c.loop-total.total c.search-sent.result c.loop-total.invariant c.search-sent.ensures,
-    )
+loop-total-smaller c = omega (arith, c.if-sent-eq0.false, next_most c.loop-total.invariant c.search-sent.ensures)
 
 pub loop-total-preserved : goal.loop-total-preserved
-loop-total-preserved c =
-    next_round c.args.self.now c.loop-total.self c.search-sent.new.self c.loop-total.total c.search-sent.result c.loop-total.invariant c.search-sent.ensures c.if-sent-eq0.false
+loop-total-preserved c = next_round c.loop-total.invariant c.search-sent.ensures c.if-sent-eq0.false
 
-pub returns-then-sent-eq0-clause-sent : goal.returns-then-sent-eq0-clause-sent
-returns-then-sent-eq0-clause-sent c =
-    last_least c.args.self.now c.loop-total.self c.search-sent.new.self c.loop-total.total c.search-sent.result c.loop-total.invariant c.search-sent.ensures c.if-sent-eq0.true
-
-pub returns-then-sent-eq0-clause-room : goal.returns-then-sent-eq0-clause-room
-returns-then-sent-eq0-clause-room c =
-    last_chosen c.args.self.now c.loop-total.self c.search-sent.new.self c.loop-total.total c.search-sent.result c.loop-total.invariant c.search-sent.ensures c.if-sent-eq0.true
-
-pub returns-then-sent-eq0-clause-network : goal.returns-then-sent-eq0-clause-network
-returns-then-sent-eq0-clause-network c =
-    same_network c.args.self.now c.loop-total.self c.search-sent.new.self c.loop-total.total c.search-sent.result c.loop-total.invariant c.search-sent.ensures
+pub returns-then-sent-eq0 : goal.returns-then-sent-eq0
+returns-then-sent-eq0 c = last_round c.loop-total.invariant c.search-sent.ensures c.if-sent-eq0.true

@@ -3,11 +3,9 @@ use Rattle.flow.proofs.network.Search.send_back.Goals as goal
 
 pub loop-next-smaller : goal.loop-next-smaller
 loop-next-smaller c =
-    fewer c.args.self.now c.requires.tree c.loop-next.next c.before-next.result c.in-Some.arc c.in-Some.is
-    (next_is c.args.self.now c.requires.tree c.loop-next.next c.before-next.result c.in-Some.arc c.in-Some.is
-    c.loop-next.self c.send_along.new.self c.args.amount _ c.loop-next.invariant c.send_along.ensures c.before-next.ensures)
+    fewer c.args.self.now c.in-Some.is
+    (next_is c.args.self.now c.in-Some.is c.loop-next.invariant c.send_along.ensures c.before-next.ensures)
 
 pub loop-next-preserved : goal.loop-next-preserved
 loop-next-preserved c =
-    walking_more c.args.self.now c.requires.tree c.loop-next.next c.before-next.result c.in-Some.arc c.in-Some.is
-    c.loop-next.self c.send_along.new.self c.args.amount _ c.loop-next.invariant c.send_along.ensures c.before-next.ensures
+    walking_more c.args.self.now c.in-Some.is c.loop-next.invariant c.send_along.ensures c.before-next.ensures
