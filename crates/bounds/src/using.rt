@@ -15,7 +15,7 @@ pub fn least_cost<B: LowerBound>(
 ) -> Result<u32, Refusal>
     ensures { LeastCost (B.meaning bound.now).number (view parish.now) «cap» lots.now result }
 {
-    // The charges are not wanted. Nothing is allocated for them.
+    // The charges are not wanted: scratch on the stack, since a bound allocates nothing.
     let mut charges = [0; MOST_LINKS];
     least_cost_by(
         bound,

@@ -129,7 +129,7 @@ impl LoadFault {
         }
     }
 
-    // The number of its sheet, or 0.
+    // The number of its sheet, or 0. Here and below a number with 0 for none, as reports write it.
     pub fn sheet(self) -> u32
         ensures { result ≡ fault_sheet self }
     {

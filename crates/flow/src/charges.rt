@@ -56,6 +56,7 @@ pub(crate) fn add_flow(parish: &Parish, lots: &[u8], charges: &mut [u32]) -> u32
     ensures sent { result ≡ least_cut (view parish.now) lots.now (left_of (view parish.now).links charges.old) }
     ensures after { charges.new ≡ added charges.old (flow_charges (view parish.now) lots.now (left_of (view parish.now).links charges.old)) }
 {
+    // Scratch on the stack, cut to the parish: a bound allocates nothing.
     let mut left_scratch = [0; MOST_LINKS];
     let mut room_scratch = [0; MOST_LINKS];
     let mut mark_scratch = [None; MOST_HOUSEHOLDS];

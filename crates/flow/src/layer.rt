@@ -30,6 +30,7 @@ impl<B: LowerBound> LowerBound for Flow<B> {
 }
 
 // Consults the bound below, and adds the flow to what it answers.
+// Each layer has such a function: what is assumed of the charges below is a `requires`, and no public function has one.
 fn consult_over<B: LowerBound>(
     below: &B,
     parish: &Parish,

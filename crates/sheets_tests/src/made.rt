@@ -11,6 +11,7 @@ pub(super) fn numbers_of(told: &str) -> [usize; 4] {
     numbers
 }
 
+// The kind is the word that a table writes for it.
 pub(super) fn made_fault(
     kind: &str,
     [number, sheet, line, field]: [usize; 4],
