@@ -1,5 +1,5 @@
 -- What each tree weighs as households join, and which trees stay closed. Assumes nothing.
-use Rattle.std.proofs.Common.{◌≡◌, ℕ, zero, suc, ◌+◌, ◌*◌, ◌<◌, ◌≤◌, true, false, cond, eqb, Some, None, List, length, get_or, set, sym, ap, ◌∙◌, inl, inr, arith}
+use Rattle.std.proofs.Common.{◌≡◌, ℕ, zero, suc, ◌+◌, ◌*◌, ◌<◌, ◌≤◌, true, false, cond, eqb, Some, None, length, get_or, sym, ap, ◌∙◌, inl, inr, arith}
 use Rattle.std.specs.Option.{option_eq}
 use Rattle.std.proofs.lemmas.Option.{none-some}
 use Rattle.std.proofs.lemmas.List.{get_or-set_same, get_or-set_other}
@@ -13,8 +13,8 @@ use Rattle.forest.proofs.Firsts.{first_least, first_none}
 use Rattle.forest.proofs.Trees.{Right, Joins, same_tree, other_tree, tree_others, others_same, still_in}
 
 -- the weights by root
-abbrev pub Weighed : Ground → Forest → List ℕ → Type 0
-Weighed G F ws = (r : ℕ) → r < G.households → get_or ws r 0 ≡ tree_weight G F r
+abbrev pub Weighed : Ground → Forest → (ℕ → ℕ) → Type 0
+Weighed G F w = (r : ℕ) → r < G.households → w r ≡ tree_weight G F r
 
 pub tree_weight_most : (G : Ground) (F : Forest) (r : ℕ) → tree_weight G F r ≤ weight_of G (λ v. true)
 tree_weight_most G F r = sum_below_le G.households _ _ (λ v l. cond_most (inside F r v) (G.weight v))
@@ -43,16 +43,13 @@ module _ (G : Ground) (F : Forest) (v r k : ℕ) (trees : length F.tree ≡ G.ho
   pub other_weight : (q : ℕ) → (q ≡ r → ⊥) → tree_weight G (joined F v r k) q ≡ tree_weight G F q
   other_weight q ne = sum_below_same G.households _ _ (λ w l. ap (λ b. cond b (G.weight w) 0) (tree_others F v r k (omega arith) out q ne w))
 
-  pub join_weighed : (ws : List ℕ) → length ws ≡ G.households → Weighed G F ws
-      → Weighed G (joined F v r k) (set ws r (get_or ws r 0 + G.weight v))
-  join_weighed ws long W q l =
+  -- where the weight at its root rises by as much, and no other changes
+  pub join_weighed : (w x : ℕ → ℕ) → Weighed G F w → x r ≡ w r + G.weight v → ((q : ℕ) → (q ≡ r → ⊥) → x q ≡ w q)
+      → Weighed G (joined F v r k) x
+  join_weighed w x W rises others q l =
       elim (cases_eq q r) [
-        | inl e ↦
-            ap (λ x. get_or (set ws r (get_or ws r 0 + G.weight v)) x 0) e
-            ∙ get_or-set_same ws r (get_or ws r 0 + G.weight v) 0 (omega arith)
-            ∙ ap (λ x. x + G.weight v) (W r root)
-            ∙ sym join_weight ∙ ap (tree_weight G (joined F v r k)) (sym e)
-        | inr ne ↦ get_or-set_other ws r q _ 0 ne ∙ W q l ∙ sym (other_weight q ne)
+        | inl e ↦ ap x e ∙ rises ∙ ap (λ y. y + G.weight v) (W r root) ∙ sym join_weight ∙ ap (tree_weight G (joined F v r k)) (sym e)
+        | inr ne ↦ others q ne ∙ W q l ∙ sym (other_weight q ne)
       ]
 
 module _ {G : Ground} {F : Forest} {u v r k : ℕ} (R : Right G F) (J : Joins G F u v r k) where

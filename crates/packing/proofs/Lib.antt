@@ -1,4 +1,5 @@
 pub mod Questions
+pub mod Counts
+pub mod Bests
 pub mod Planted
 pub mod Grown
-pub mod Counts

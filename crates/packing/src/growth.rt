@@ -1,0 +1,45 @@
+// The trees of a question as they grow.
+ghost use Rattle.std.specs.Prelude.{◌≡◌, length};
+ghost use Rattle.parish.specs.Limits.{most_households};
+
+use super::question::Question;
+use parish::{MOST_HOUSEHOLDS, MOST_LINKS};
+
+// The weight of a tree, and whether it may still grow.
+#[derive(Clone, Copy)]
+pub(crate) struct Tree {
+    pub(crate) weight: u32,
+    pub(crate) live: bool,
+}
+
+// A question and its trees, each named by its root: for each household the tree that it is in, if any; for each link 1 where
+// it is a root link or a tree link; and for each household the tree with that root, which weighs 0 where it is no root.
+#[derive(Drop)]
+pub(crate) struct Growth<'a> {
+    pub(crate) question: Question<'a>,
+    pub(crate) tree_of: [Option<usize>; MOST_HOUSEHOLDS],
+    pub(crate) taken: [u32; MOST_LINKS],
+    pub(crate) trees: [Tree; MOST_HOUSEHOLDS],
+    ghost long: { length trees ≡ most_households },
+}
+
+impl<'a> Growth<'a> {
+    ghost use Rattle.packing.specs.Grounded.{ground_of};
+    ghost use Rattle.packing.specs.Stands.{Sown};
+
+    // No tree yet.
+    pub(crate) fn new(question: &Question<'a>) -> Self
+        ensures bare { Sown (ground_of result.question) 0 result 0 }
+        ensures question { result.question ≡ question.now }
+    {
+        Growth {
+            question: *question,
+            tree_of: [None; MOST_HOUSEHOLDS],
+            taken: [0; MOST_LINKS],
+            trees: [Tree {
+                weight: 0,
+                live: false,
+            }; MOST_HOUSEHOLDS],
+        }
+    }
+}
