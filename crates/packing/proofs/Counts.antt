@@ -1,26 +1,14 @@
 -- Taking the heaviest weight again and again. Assumes nothing.
-use Rattle.std.proofs.Common.{◌≡◌, ℕ, suc, ◌+◌, ◌-◌, ◌<◌, ◌≤◌, eqb, ltb, Some, None, Option, MatchOption, true, false, List, length, length-set, set, sym, ap, ◌∙◌, subst, inl, inr, arith}
-use Rattle.std.proofs.lemmas.Bool.{cases_eq, cases_Bool, ltb-true, ltb-false, eq-eqb, ne_eqb, cond-true, cond-false}
+use Rattle.std.proofs.Common.{◌≡◌, ℕ, suc, ◌+◌, ◌-◌, ◌<◌, ◌≤◌, eqb, List, length, length-set, set, sym, ap, ◌∙◌, subst, inl, inr, arith}
+use Rattle.std.proofs.lemmas.Bool.{cases_eq, eq-eqb, ne_eqb, cond-true, cond-false}
 use Rattle.bounds.specs.Sums.{sum_below}
 use Rattle.bounds.proofs.Indexed.{sum_below_same, sum_below_none}
 use Rattle.forest.proofs.Sums.{sum_step}
 use Rattle.forest.proofs.Greedy.{Least, without, least_none, least_more, least_same, reached_most}
 use Rattle.packing.specs.declared.growth.Tree.{Tree}
 use Rattle.packing.specs.Stands.{held_weight}
-use Rattle.packing.specs.Counting.{Heaviest, Counted}
+use Rattle.packing.specs.Counting.{Counted}
 use Rattle.packing.proofs.Planted.{weight_at, weight_others}
-
--- the heaviest tree, as `max_by_key` finds it
-pub heaviest_most : (trees : List Tree) (n : ℕ) (r : Option ℕ)
-    → MatchOption r ((k : ℕ) → k < n → ltb 0 (held_weight trees k) ≡ false)
-    (λ i. (i < n) × (ltb 0 (held_weight trees i) ≡ true) × ((k : ℕ) → k < n → ltb 0 (held_weight trees k) ≡ true → held_weight trees k ≤ held_weight trees i))
-    → Heaviest trees n r
-heaviest_most trees n None h = λ k l. omega (arith, ltb-false _ _ (h k l))
-heaviest_most trees n (Some i) h = (
-  h.0,
-  ltb-true _ _ h.1,
-  λ k l. elim (cases_Bool (ltb 0 (held_weight trees k))) [ inl some ↦ h.2 k l some | inr none ↦ omega (arith, ltb-false _ _ none) ],
-)
 
 -- the weights after one is taken
 taken_at : (ts : List Tree) (i k : ℕ) (t : Tree) → t.weight ≡ 0 → i < length ts → held_weight (set ts i t) k ≡ without (held_weight ts) i k

@@ -1,5 +1,6 @@
 -- Growing tree by tree: one link taken, one tree closed, none left. Assumes nothing.
-use Rattle.std.proofs.Common.{◌≡◌, ℕ, suc, ◌+◌, ◌-◌, ◌<◌, ◌≤◌, true, false, cond, ◌&&◌, ◌⊎◌, Some, None, Option, MatchOption, List, length, set, sym, refl, ap, ◌∙◌, subst, ap₂, inl, inr, arith}
+use Rattle.std.proofs.Common.{◌≡◌, ℕ, suc, ◌+◌, ◌-◌, ◌<◌, ◌≤◌, true, false, cond, ◌&&◌, ◌⊎◌, Some, None, Option, List, length, take, set, sym, refl, ap, ◌∙◌, subst, ap₂, inl, inr, arith}
+use Rattle.std.proofs.lemmas.List.{get_or-take, length-take}
 use Rattle.std.proofs.lemmas.Bool.{cases_eq, cases_Bool, lt-ltb, le-ltb, both_ways}
 use Rattle.forest.specs.Searches.{count_below}
 use Rattle.forest.specs.Grounds.{Ground, leads}
@@ -9,22 +10,38 @@ use Rattle.forest.proofs.Firsts.{first_is, first_none}
 use Rattle.forest.proofs.Trees.{Right, was_out, grow_joins, grow_right, grown_more, grown_end, planted_right}
 use Rattle.forest.proofs.Ending.{lightest_is, none_lightest, fewer_outside}
 use Rattle.forest.proofs.Weighing.{join_weighed, stays_closed}
+use Rattle.packing.specs.declared.question.Question.{Question}
 use Rattle.packing.specs.declared.growth.Growth.{Growth}
 use Rattle.packing.specs.declared.growth.Tree.{Tree}
 use Rattle.packing.specs.Grounded.{ground_of}
-use Rattle.packing.specs.Stands.{forest_of, held_weight, is_live, Weighs, Joins, Sown, Whole}
+use Rattle.packing.specs.Stands.{forest_of, bare, held_weight, is_live, Weighs, Joins, Sown, Whole}
 use Rattle.packing.specs.Growing.{Lightest, LightestBelow}
 use Rattle.packing.proofs.Questions.{fair}
 use Rattle.packing.proofs.Planted.{weight_at, weight_others, live_at, live_others}
-use Rattle.packing.proofs.Bests.{AtMost}
 
--- the lightest live tree, as `min_by_key` finds it
-pub lightest_least : (trees : List Tree) (n : ℕ) (r : Option ℕ)
-    → MatchOption r ((q : ℕ) → q < n → is_live trees q ≡ false)
-    (λ t. (t < n) × (is_live trees t ≡ true) × ((q : ℕ) → q < n → is_live trees q ≡ true → AtMost (held_weight trees) t q))
-    → Lightest trees n r
-lightest_least trees n None h = h
-lightest_least trees n (Some t) h = record { there = h.0; lives = h.1; least = h.2 }
+-- the lightest of the first n trees
+lightest_of : (trees : List Tree) (n : ℕ) (r : Option ℕ) → n ≤ length trees → Lightest (take n trees) (length (take n trees)) r → Lightest trees n r
+lightest_of trees n None few h = λ q l. ap (λ (x : Tree). x.live) (sym (get_or-take n trees q bare l)) ∙ h q (omega (arith, length-take n trees))
+lightest_of trees n (Some t) few h =
+    let there : t < n = omega (arith, h.there, length-take n trees) in
+    let lives : (q : ℕ) → q < n → is_live (take n trees) q ≡ is_live trees q = λ q l. ap (λ (x : Tree). x.live) (get_or-take n trees q bare l) in
+    let weighs : (q : ℕ) → q < n → held_weight (take n trees) q ≡ held_weight trees q = λ q l. ap (λ (x : Tree). x.weight) (get_or-take n trees q bare l) in
+    record {
+      there = there;
+      lives = sym (lives t there) ∙ h.lives;
+      least = λ q l on. elim (h.least q (omega (arith, length-take n trees)) (lives q l ∙ on)) [
+        | inl less ↦ inl (omega (arith, weighs t there, weighs q l))
+        | inr e ↦ inr (omega (arith, e.0, weighs t there, weighs q l), e.1)
+      ];
+    }
+
+-- and so of the trees of a question
+pub lightest_at : (g : Growth) (q : Question) (r : Option ℕ) → g.question ≡ q
+    → Lightest (take (ground_of q).households g.trees) (length (take (ground_of q).households g.trees)) r
+    → Lightest g.trees (ground_of g.question).households r
+lightest_at g q r e h =
+    subst (λ n. Lightest g.trees n r) (ap (λ (x : Question). (ground_of x).households) (sym e))
+    (lightest_of g.trees (ground_of q).households r (omega (arith, g.long, q.few)) h)
 
 -- on the way from the roots to the whole forest: what is still to grow is counted, and a tree that is not live cannot grow
 pub record Growing (G : Ground) (F : Forest) (trees : List Tree) : Type 0 where

@@ -1,5 +1,4 @@
 pub mod Questions
 pub mod Counts
-pub mod Bests
 pub mod Planted
 pub mod Grown

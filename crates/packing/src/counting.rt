@@ -38,9 +38,12 @@ impl Growth<'_> {
 fn heaviest(trees: &[Tree]) -> Option<usize>
     ensures { Heaviest trees.now (length trees.now) result }
 {
-    (0..trees.len())
-        .filter(|&root| trees[root].weight > 0)
-        .max_by_key(|&root| trees[root].weight)
+    trees
+        .iter()
+        .enumerate()
+        .max_by_key(|(_, tree)| tree.weight)
+        .filter(|(_, tree)| tree.weight > 0)
+        .map(|(root, _)| root)
 }
 
 // The fewest trees whose weights reach a goal, taken heaviest first; all where they do not suffice. The weights are used up.

@@ -1,24 +1,27 @@
 // Growing: the lightest tree takes its lowest link to a household outside all trees, until no tree has one.
-ghost use Rattle.std.specs.Prelude.{◌≡◌, ℕ, ◌<◌};
+ghost use Rattle.std.specs.Prelude.{◌≡◌, ℕ, ◌<◌, length};
 ghost use Rattle.forest.specs.Forests.{outside};
 ghost use Rattle.packing.specs.Grounded.{ground_of};
 ghost use Rattle.packing.specs.Stands.{forest_of, Sown, Whole};
 ghost use Rattle.packing.specs.Growing.{Lightest, Far};
 
-use super::growth::Growth;
+use super::growth::{Growth, Tree};
 use bisection::UNSET;
 use parish::Link;
 
-impl Growth<'_> {
-    // The lightest tree that may still grow, the lowest where they tie.
-    fn lightest(&self) -> Option<usize>
-        ensures { Lightest self.now.trees (ground_of self.now.question).households result }
-    {
-        (0..self.question.households.len())
-            .filter(|&root| self.trees[root].live)
-            .min_by_key(|&root| self.trees[root].weight)
-    }
+// The lightest tree that may still grow, by its root, the lowest where they tie.
+fn lightest(trees: &[Tree]) -> Option<usize>
+    ensures { Lightest trees.now (length trees.now) result }
+{
+    trees
+        .iter()
+        .enumerate()
+        .min_by_key(|(root, tree)| (!tree.live, tree.weight, *root))
+        .filter(|(_, tree)| tree.live)
+        .map(|(root, _)| root)
+}
 
+impl Growth<'_> {
     // Whether a household is unset and outside all trees.
     fn is_outside(&self, household: usize) -> bool
         requires { household < (ground_of self.now.question).households }
@@ -51,8 +54,9 @@ impl Growth<'_> {
         ensures whole { Whole (ground_of self.new.question) self.new }
         ensures question { self.new.question ≡ self.old.question }
     {
+        let households = self.question.households.len();
         'grow: loop {
-            while let Some(root) = self.lightest() {
+            while let Some(root) = lightest(&self.trees[..households]) {
                 for link in 0..self.question.links.len() {
                     if let Some(household) = self.far_end(root, link) {
                         self.join(household, root, link);

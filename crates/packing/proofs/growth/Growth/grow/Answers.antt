@@ -1,9 +1,9 @@
-use Rattle.std.proofs.Common.{◌<◌, refl, ap, ◌∙◌, subst, arith, below_more}
+use Rattle.std.proofs.Common.{None, ◌<◌, refl, ap, ◌∙◌, subst, arith, below_more}
 use Rattle.packing.specs.declared.growth.Growth.{Growth}
 use Rattle.packing.specs.Grounded.{ground_of}
 use Rattle.packing.specs.Stands.{forest_of}
 use Rattle.packing.proofs.Planted.{tree_light}
-use Rattle.packing.proofs.Grown.{left_out, alive, takes, takes_fewer, closes, fewer_alive, grown_whole, growing_start}
+use Rattle.packing.proofs.Grown.{lightest_at, left_out, alive, takes, takes_fewer, closes, fewer_alive, grown_whole, growing_start}
 use Rattle.packing.proofs.growth.Growth.grow.Goals as goal
 
 pub grow-init : goal.grow-init
@@ -57,4 +57,6 @@ loop-root-preserved c =
     }
 
 pub returns-clause-whole : goal.returns-clause-whole
-returns-clause-whole c = grown_whole c.loop-root.self c.loop-root.invariant.stands c.in_default.ensures
+returns-clause-whole c =
+    let same = c.loop-root.invariant.question ∙ c.grow.invariant.question in
+    grown_whole c.loop-root.self c.loop-root.invariant.stands (lightest_at c.loop-root.self c.args.self.now.question None same c.in_default.ensures)
