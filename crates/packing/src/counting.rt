@@ -7,7 +7,6 @@ ghost use Rattle.packing.specs.Stands.{forest_of, held_weight};
 ghost use Rattle.packing.specs.Counting.{weight_off, Heaviest, Counted};
 
 use super::growth::{Growth, Tree};
-use bisection::UNSET;
 
 impl Growth<'_> {
     // What a household takes from the target: its weight where it is set in the other lot, or unset in no tree.
@@ -15,8 +14,7 @@ impl Growth<'_> {
         requires { household < (ground_of self.now.question).households }
         ensures { result ≡ weight_off (ground_of self.now.question) (forest_of self.now) household }
     {
-        let lot = self.question.lots[household];
-        if lot == self.question.away() || lot == UNSET && matches!(self.tree_of[household], None) {
+        if self.question.lots[household] == self.question.away() || self.is_outside(household) {
             self.question.households[household].weight
         } else {
             0

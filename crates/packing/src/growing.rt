@@ -23,11 +23,12 @@ fn lightest(trees: &[Tree]) -> Option<usize>
 
 impl Growth<'_> {
     // Whether a household is unset and outside all trees.
-    fn is_outside(&self, household: usize) -> bool
+    pub(crate) fn is_outside(&self, household: usize) -> bool
         requires { household < (ground_of self.now.question).households }
         ensures { result ≡ outside (ground_of self.now.question) (forest_of self.now) household }
     {
-        self.question.lots[household] == UNSET && matches!(self.tree_of[household], None)
+        let tree = self.tree_of[household];
+        self.question.lots[household] == UNSET && tree.is_none()
     }
 
     // The household outside all trees to which a usable link leads from a tree.

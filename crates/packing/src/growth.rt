@@ -12,14 +12,20 @@ pub(crate) struct Tree {
     pub(crate) live: bool,
 }
 
-// A question and its trees, each named by its root: for each household the tree that it is in, if any; for each link 1 where
-// it is a root link or a tree link; and for each household the tree with that root, which weighs 0 where it is no root.
+// A question and its trees, each named by its root. In arrays of the most that there can be: a step allocates nothing.
 #[derive(Drop)]
 pub(crate) struct Growth<'a> {
     pub(crate) question: Question<'a>,
+
+    // The tree that each household is in, if any.
     pub(crate) tree_of: [Option<usize>; MOST_HOUSEHOLDS],
+
+    // 1 for each root link and tree link, else 0. Numbers, since they are added to the charges.
     pub(crate) taken: [u32; MOST_LINKS],
+
+    // The tree with each household as its root, which weighs 0 where the household is no root.
     pub(crate) trees: [Tree; MOST_HOUSEHOLDS],
+
     ghost long: { length trees ≡ most_households },
 }
 

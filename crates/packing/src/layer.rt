@@ -93,6 +93,7 @@ fn add_taken(charges: &mut [u32], taken: &[u32])
     requires small { (k : ℕ) → slice_index charges.old k + slice_index taken.now k ≤ strongest_held }
     ensures { charges.new ≡ added charges.old taken.now }
 {
+    // By index: of what is written through `iter_mut` a proof knows nothing afterwards.
     for (link, extra) in taken.iter().enumerate() {
         charges[link] += *extra;
     }

@@ -9,9 +9,14 @@ use parish::{Household, Link, Lot};
 pub(crate) struct Question<'a> {
     pub(crate) households: &'a [Household],
     pub(crate) links: &'a [Link],
+
+    // A byte for each household: the form in which lists of lots are handed over.
     pub(crate) lots: &'a [u8],
+
+    // A number for each link: the form in which lists of charges are handed over.
     pub(crate) charges: &'a [u32],
     pub(crate) home: Lot,
+
     ghost few: { length households.now ≤ most_households },
     ghost weights: { Weights households.now },
     ghost short: { length links.now ≤ most_links },
