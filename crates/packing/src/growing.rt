@@ -1,6 +1,6 @@
 // Growing: the lightest tree takes its lowest link to a household outside all trees, until no tree has one.
 ghost use Rattle.std.specs.Prelude.{◌≡◌, ℕ, ◌<◌, length};
-ghost use Rattle.forest.specs.Forests.{outside};
+ghost use Rattle.forest.specs.Forests.{inside, outside};
 ghost use Rattle.packing.specs.Grounded.{ground_of};
 ghost use Rattle.packing.specs.Stands.{forest_of, Sown, Whole};
 ghost use Rattle.packing.specs.Growing.{Lightest, Far};
@@ -22,6 +22,15 @@ fn lightest(trees: &[Tree]) -> Option<usize>
 }
 
 impl Growth<'_> {
+    // Whether a household is in the tree with a root.
+    fn is_inside(&self, household: usize, root: usize) -> bool
+        requires { household < (ground_of self.now.question).households }
+        ensures { result ≡ inside (forest_of self.now) root household }
+    {
+        let tree = self.tree_of[household];
+        tree == Some(root)
+    }
+
     // Whether a household is unset and outside all trees.
     pub(crate) fn is_outside(&self, household: usize) -> bool
         requires { household < (ground_of self.now.question).households }
@@ -40,13 +49,13 @@ impl Growth<'_> {
             return None;
         }
         let Link { from, to, .. } = self.question.links[link];
-        let (near, far) = if self.is_outside(to) {
-            (from, to)
+        if self.is_inside(from, root) && self.is_outside(to) {
+            Some(to)
+        } else if self.is_inside(to, root) && self.is_outside(from) {
+            Some(from)
         } else {
-            (to, from)
-        };
-        let tree = self.tree_of[near];
-        (tree == Some(root) && self.is_outside(far)).then_some(far)
+            None
+        }
     }
 
     // Grows the trees until none has a usable link to an unset household outside all trees.
