@@ -1,5 +1,5 @@
 -- Planting household by household. Assumes nothing.
-use Rattle.std.proofs.Common.{◌≡◌, ℕ, suc, ◌+◌, ◌*◌, ◌<◌, ◌≤◌, Bool, true, false, cond, ◌&&◌, ltb, None, Option, List, take, length, set, replicate, sym, refl, ap, ◌∙◌, subst, ap₂, inl, inr, arith, get_or-set_other, get_or-set_same}
+use Rattle.std.proofs.Common.{◌≡◌, ℕ, suc, ◌+◌, ◌*◌, ◌<◌, ◌≤◌, Bool, true, false, cond, ◌&&◌, ltb, None, Option, List, map, take, length, set, replicate, sym, refl, ap, ◌∙◌, subst, ap₂, inl, inr, arith, get_or-set_other, get_or-set_same}
 use Rattle.std.proofs.lemmas.Bool.{cases_eq, cases_lt, cases_Bool, and_from, and_left, and_right, lt-ltb, le-ltb, cond-true, cond-false}
 use Rattle.std.proofs.lemmas.Option.{none-some}
 use Rattle.std.proofs.lemmas.List.{take-replicate}
@@ -13,7 +13,8 @@ use Rattle.packing.specs.declared.question.Question.{Question}
 use Rattle.packing.specs.declared.growth.Growth.{Growth}
 use Rattle.packing.specs.declared.growth.Tree.{Tree}
 use Rattle.packing.specs.Grounded.{ground_of}
-use Rattle.packing.specs.Stands.{forest_of, bare, held_weight, is_live, Plants, Sown}
+use Rattle.packing.specs.Stands.{tree_named, forest_of, bare, held_weight, is_live, Plants, Sown}
+use Rattle.packing.proofs.Named.{none_named}
 use Rattle.packing.proofs.Questions.{fair, weight_most}
 
 -- no tree is heavier than a parish can be
@@ -104,13 +105,15 @@ module _ (g h : Growth) (v roots : ℕ) (b : Bool) (more_roots : ℕ) (lt : v < 
       (elim (cases_Bool (is_root G v)) [ inl root ↦ sow_root root | inr none ↦ sow_none none ])
 
 -- nothing is planted yet
-pub sow_start : (g : Growth) → g.tree_of ≡ replicate most_households None → g.taken ≡ replicate most_links 0
+pub sow_start : (g : Growth) → g.tree_of ≡ replicate most_households 0 → g.taken ≡ replicate most_links 0
     → g.trees ≡ replicate most_households bare → Sown (ground_of g.question) 0 g 0
 sow_start g e k t =
     record {
       is =
           ap₂ (λ (x : List (Option ℕ)) (y : List ℕ). record { tree = x; taken = y })
-          (ap (take (ground_of g.question).households) e ∙ take-replicate {X = Option ℕ} (ground_of g.question).households most_households None g.question.few)
+          (ap (λ xs. map tree_named (take (ground_of g.question).households xs)) e
+          ∙ ap (map tree_named) (take-replicate {X = ℕ} (ground_of g.question).households most_households 0 g.question.few)
+          ∙ none_named (ground_of g.question).households)
           (ap (take (ground_of g.question).links) k ∙ take-replicate {X = ℕ} (ground_of g.question).links most_links 0 g.question.short);
       weighs = λ r b. ap (λ x. held_weight x r) t ∙ ap (λ (x : Tree). x.weight) (same_each most_households r bare) ∙ sym (none r);
       lives = λ r b. ap (λ x. is_live x r) t ∙ ap (λ (x : Tree). x.live) (same_each most_households r bare) ∙ sym (and_left _ _ (le-ltb r 0 (omega arith)));

@@ -1,5 +1,5 @@
 -- What the program holds of a forest. Assumes nothing.
-use Rattle.std.specs.Prelude.{◌≡◌, ℕ, ◌+◌, ◌<◌, Bool, true, false, cond, ◌&&◌, List, take, nat_lt, slice_index_or, slice_set}
+use Rattle.std.specs.Prelude.{◌≡◌, ℕ, zero, suc, ◌+◌, ◌<◌, Bool, true, false, cond, ◌&&◌, List, map, Some, None, Option, take, nat_lt, slice_index_or, slice_set}
 use Rattle.forest.specs.Searches.{count_below}
 use Rattle.forest.specs.Grounds.{Ground}
 use Rattle.forest.specs.Forests.{Forest, is_root, joined, plant, planted, forest, tree_weight}
@@ -7,9 +7,14 @@ use Rattle.packing.specs.declared.growth.Growth.{Growth}
 use Rattle.packing.specs.declared.growth.Tree.{Tree}
 use Rattle.packing.specs.Grounded.{ground_of}
 
+-- the tree that a byte names by its root, or none
+abbrev pub tree_named : ℕ → Option ℕ
+tree_named zero = None
+tree_named (suc r) = Some r
+
 -- the tree of each household, and the links that are taken
 abbrev pub forest_of : Growth → Forest
-forest_of g = record { tree = take (ground_of g.question).households g.tree_of; taken = take (ground_of g.question).links g.taken }
+forest_of g = record { tree = map tree_named (take (ground_of g.question).households g.tree_of); taken = take (ground_of g.question).links g.taken }
 
 -- a tree of no household
 abbrev pub bare : Tree

@@ -24,11 +24,11 @@ fn lightest(trees: &[Tree]) -> Option<usize>
 impl Growth<'_> {
     // Whether a household is in the tree with a root.
     fn is_inside(&self, household: usize, root: usize) -> bool
-        requires { household < (ground_of self.now.question).households }
+        requires household { household < (ground_of self.now.question).households }
+        requires root { root < (ground_of self.now.question).households }
         ensures { result ≡ inside (forest_of self.now) root household }
     {
-        let tree = self.tree_of[household];
-        tree == Some(root)
+        self.tree_of[household] == (root + 1) as u8
     }
 
     // Whether a household is unset and outside all trees.
@@ -36,13 +36,13 @@ impl Growth<'_> {
         requires { household < (ground_of self.now.question).households }
         ensures { result ≡ outside (ground_of self.now.question) (forest_of self.now) household }
     {
-        let tree = self.tree_of[household];
-        self.question.lots[household] == UNSET && tree.is_none()
+        self.question.lots[household] == UNSET && self.tree_of[household] == 0
     }
 
     // The household outside all trees to which a usable link leads from a tree.
     fn far_end(&self, root: usize, link: usize) -> Option<usize>
-        requires { link < (ground_of self.now.question).links }
+        requires root { root < (ground_of self.now.question).households }
+        requires link { link < (ground_of self.now.question).links }
         ensures { Far (ground_of self.now.question) (forest_of self.now) root link result }
     {
         if !self.question.is_usable(link) {

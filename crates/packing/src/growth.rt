@@ -17,8 +17,9 @@ pub(crate) struct Tree {
 pub(crate) struct Growth<'a> {
     pub(crate) question: Question<'a>,
 
-    // The tree that each household is in, if any.
-    pub(crate) tree_of: [Option<usize>; MOST_HOUSEHOLDS],
+    // For each household one more than the root of its tree, or 0 where it is in none. Bytes: growing compares them at each
+    // link, and with options takes twice as long.
+    pub(crate) tree_of: [u8; MOST_HOUSEHOLDS],
 
     // 1 for each root link and tree link, else 0. Numbers, since they are added to the charges.
     pub(crate) taken: [u32; MOST_LINKS],
@@ -40,7 +41,7 @@ impl<'a> Growth<'a> {
     {
         Growth {
             question: *question,
-            tree_of: [None; MOST_HOUSEHOLDS],
+            tree_of: [0; MOST_HOUSEHOLDS],
             taken: [0; MOST_LINKS],
             trees: [Tree {
                 weight: 0,

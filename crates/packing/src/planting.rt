@@ -16,7 +16,7 @@ impl Growth<'_> {
         requires light { held_weight self.old.trees root ≤ most_households * heaviest_held }
         ensures { Joins household root link self.old self.new }
     {
-        self.tree_of[household] = Some(root);
+        self.tree_of[household] = (root + 1) as u8;
         self.taken[link] = 1;
         self.trees[root] = Tree {
             weight: self.trees[root].weight + self.question.households[household].weight,

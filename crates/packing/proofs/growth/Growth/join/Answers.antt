@@ -1,6 +1,8 @@
-use Rattle.std.proofs.Common.{List, Some, Option, ℕ, refl, ap₂}
+use Rattle.std.proofs.Common.{ℕ, List, Some, Option, add-one, map, sym, refl, ap, ◌∙◌, ap₂, arith}
 use Rattle.std.proofs.Math.Seq.{take-set-lt}
 use Rattle.packing.specs.Grounded.{ground_of}
+use Rattle.packing.specs.Stands.{tree_named}
+use Rattle.packing.proofs.Named.{set_named}
 use Rattle.packing.proofs.growth.Growth.join.Goals as goal
 
 pub returns : goal.returns
@@ -10,7 +12,7 @@ returns c =
       question = refl;
       is =
           ap₂ (λ (x : List (Option ℕ)) (y : List ℕ). record { tree = x; taken = y })
-          (take-set-lt (ground_of g.question).households g.tree_of c.args.household (Some c.args.root) c.requires.household)
+          (set_named g.tree_of (ground_of g.question).households c.args.household c.args.root _ (add-one c.args.root) c.requires.household)
           (take-set-lt (ground_of g.question).links g.taken c.args.link 1 c.requires.link);
       trees = refl;
     }
