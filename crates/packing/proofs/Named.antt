@@ -1,10 +1,10 @@
 -- Trees named by bytes. Assumes nothing.
-use Rattle.std.proofs.Common.{◌≡◌, ℕ, zero, suc, ◌<◌, true, false, ◌&&◌, eqb, Some, None, Option, is_none, List, [], ◌∷◌, map, take, get_or, set, replicate, sym, refl, ap, ◌∙◌, ap₂, inl, inr, arith}
+use Rattle.std.proofs.Common.{◌≡◌, ℕ, zero, suc, ◌<◌, eqb, Some, None, List, [], ◌∷◌, map, take, get_or, set, replicate, sym, refl, ap, ◌∙◌, inl, inr, arith}
 use Rattle.std.specs.Option.{option_eq}
 use Rattle.std.proofs.Math.Seq.{take-set-lt}
 use Rattle.std.proofs.lemmas.List.{get_or-take}
 use Rattle.std.proofs.lemmas.Bool.{cases_eq, eq-eqb, ne_eqb}
-use Rattle.forest.specs.Forests.{inside, outside}
+use Rattle.forest.specs.Forests.{inside}
 use Rattle.packing.specs.declared.growth.Growth.{Growth}
 use Rattle.packing.specs.Grounded.{ground_of}
 use Rattle.packing.specs.Stands.{tree_named, forest_of}
@@ -34,10 +34,6 @@ same_named (suc q) r =
       | inr ne ↦ ne_eqb q r ne ∙ sym (ne_eqb (suc q) (suc r) (λ e. ne (omega arith)))
     ]
 
-nothing_named : (b : ℕ) → is_none (tree_named b) ≡ eqb b 0
-nothing_named zero = sym (eq-eqb 0 0 refl)
-nothing_named (suc q) = sym (ne_eqb (suc q) 0 (λ e. omega arith))
-
 -- what the byte of a household tells
 module _ (g : Growth) (v : ℕ) (there : v < (ground_of g.question).households) where
   tree_at : get_or (forest_of g).tree v None ≡ tree_named (get_or g.tree_of v 0)
@@ -45,8 +41,3 @@ module _ (g : Growth) (v : ℕ) (there : v < (ground_of g.question).households) 
 
   pub inside_named : (r b : ℕ) → b ≡ suc r → eqb (get_or g.tree_of v 0) b ≡ inside (forest_of g) r v
   inside_named r b e = ap (eqb (get_or g.tree_of v 0)) e ∙ sym (same_named (get_or g.tree_of v 0) r) ∙ ap (λ o. option_eq eqb o (Some r)) (sym tree_at)
-
-  pub outside_named : get_or g.question.lots.now v 0 ≡ 0 → eqb (get_or g.tree_of v 0) 0 ≡ outside (ground_of g.question) (forest_of g) v
-  outside_named unset =
-      sym (nothing_named (get_or g.tree_of v 0)) ∙ ap (λ o. is_none o) (sym tree_at)
-      ∙ ap (λ b. b && is_none (get_or (forest_of g).tree v None)) (sym (eq-eqb _ 0 unset))

@@ -1,9 +1,6 @@
 use Rattle.std.proofs.Common.{refl, arith}
-use Rattle.packing.proofs.Counts.{counting_start, counting_more, counting_done, counting_short}
+use Rattle.packing.proofs.Counts.{counting_more, counting_done, counting_short}
 use Rattle.packing.proofs.counting.fewest.Goals as goal
-
-pub loop-left-init : goal.loop-left-init
-loop-left-init c = counting_start c.args.trees.now c.args.goal
 
 pub returns-in_default : goal.returns-in_default
 returns-in_default c = counting_short c.loop-left.invariant c.args.all c.loop-left-test.true (λ k l. c.in_default.ensures k (omega (arith, c.loop-left.auto.trees)))

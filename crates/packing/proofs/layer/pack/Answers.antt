@@ -1,7 +1,7 @@
-use Rattle.std.proofs.Common.{ℕ, take, sym, ap, ◌∙◌, subst, arith}
+use Rattle.std.proofs.Common.{ℕ, take, ap, ◌∙◌, subst, arith}
 use Rattle.std.proofs.lemmas.List.{get_or-take, length-take}
 use Rattle.forest.specs.Searches.{count_below}
-use Rattle.forest.specs.Forests.{Forest, is_root}
+use Rattle.forest.specs.Forests.{is_root}
 use Rattle.forest.specs.Fewest.{target}
 use Rattle.forest.proofs.Packed.{packed_counted}
 use Rattle.packing.specs.declared.question.Question.{Question}
@@ -29,9 +29,3 @@ returns-clause-number c =
     (c.target-goal.ensures ∙ ap (λ (x : Question). target (ground_of x) (forest_of c.grow.new.self) c.args.least) same ∙ ap (λ F. target (ground_of c.args.question.now) F c.args.least) W.is)
     (counted_least counted)
     (λ short. counted.short short ∙ c.plant-roots.ensures.sown.counts ∙ ap (λ (x : Question). count_below (is_root (ground_of x)) (ground_of x).households) planted')
-
-pub returns-clause-charges : goal.returns-clause-charges
-returns-clause-charges c =
-    let same = c.grow.ensures.question ∙ c.plant-roots.ensures.question ∙ c.new-growth.ensures.question in
-    let W = subst (λ (x : Question). Whole (ground_of x) c.grow.new.self) same c.grow.ensures.whole in
-    ap (λ (x : Question). take (ground_of x).links c.grow.new.self.taken) (sym same) ∙ ap (λ (F : Forest). F.taken) W.is

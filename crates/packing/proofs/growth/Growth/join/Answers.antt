@@ -1,7 +1,6 @@
-use Rattle.std.proofs.Common.{ℕ, List, Some, Option, add-one, map, sym, refl, ap, ◌∙◌, ap₂, arith}
+use Rattle.std.proofs.Common.{ℕ, List, Option, add-one, refl, ap₂}
 use Rattle.std.proofs.Math.Seq.{take-set-lt}
 use Rattle.packing.specs.Grounded.{ground_of}
-use Rattle.packing.specs.Stands.{tree_named}
 use Rattle.packing.proofs.Named.{set_named}
 use Rattle.packing.proofs.growth.Growth.join.Goals as goal
 

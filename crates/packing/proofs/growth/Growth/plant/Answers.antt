@@ -37,9 +37,3 @@ loop-household-preserved c =
       few = omega (arith, one, cond_most c.plant_at.result 1);
       question = c.plant_at.ensures.question ∙ c.loop-household.invariant.question;
     }
-
-pub returns-clause-sown : goal.returns-clause-sown
-returns-clause-sown c =
-    let end : c.loop-household.household ≡ (ground_of c.loop-household.self.question).households =
-    omega (arith, c.loop-household-test.false, c.loop-household.auto.household-end, ap (λ (q : Question). (ground_of q).households) c.loop-household.invariant.question) in
-    subst (λ n. Sown (ground_of c.loop-household.self.question) n c.loop-household.self c.loop-household.roots) end c.loop-household.invariant.sown
