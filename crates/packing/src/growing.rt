@@ -65,6 +65,8 @@ impl Growth<'_> {
         ensures question { self.new.question ≡ self.old.question }
     {
         let households = self.question.households.len();
+
+        // Loops over trees and links, left by the label when a link is taken: the lightest tree is then another.
         'grow: loop {
             while let Some(root) = lightest(&self.trees[..households]) {
                 for link in 0..self.question.links.len() {

@@ -47,6 +47,8 @@ impl Growth<'_> {
         ensures question { self.new.question ≡ self.old.question }
     {
         let mut roots = 0;
+
+        // By number, since each turn may change the trees.
         for household in 0..self.question.households.len() {
             roots += u32::from(self.plant_at(household));
         }
