@@ -1,6 +1,6 @@
 -- The heaviest first reaches a goal with the fewest. Assumes nothing.
 use Rattle.std.proofs.Common.{◌≡◌, ℕ, suc, ◌+◌, ◌-◌, ◌<◌, ◌≤◌, Bool, true, false, cond, ◌&&◌, eqb, ◌⊎◌, sym, refl, ap, ◌∙◌, ap₂, inl, inr, arith}
-use Rattle.std.proofs.lemmas.Bool.{cases_eq, cases_lt, cases_Bool, and_parts, eq-eqb, ne_eqb, eqb-true, both_ways, cond-true, cond-false}
+use Rattle.std.proofs.lemmas.Bool.{cases_eq, cases_lt, cases_Bool, and_parts, eq-eqb, ne_eqb, both_ways, cond-true, cond-false}
 use Rattle.bounds.specs.Sums.{sum_below}
 use Rattle.bounds.proofs.Indexed.{sum_below_same, sum_below_le, sum_below_none}
 use Rattle.forest.specs.Searches.{first, count_below}
@@ -9,7 +9,7 @@ use Rattle.forest.specs.Forests.{Forest, is_root, inside, tree_weight}
 use Rattle.forest.specs.Fewest.{choice_weight, Fewest}
 use Rattle.forest.proofs.Sums.{sum_step, sum_rise, cond_most, cond_le}
 use Rattle.forest.proofs.Firsts.{first_passes, first_least}
-use Rattle.forest.proofs.Trees.{Right}
+use Rattle.forest.proofs.Trees.{Right, tree_same}
 use Rattle.forest.proofs.Fewest.{changed, changed_at, changed_off, choice_most}
 
 -- c is the fewest of n weights that reach the goal
@@ -182,6 +182,6 @@ module _ (n : ℕ) (w : ℕ → ℕ) (tree : ℕ → Bool) (goal c : ℕ) where
 pub no_root_no_weight : {G : Ground} {F : Forest} → Right G F → (r : ℕ) → is_root G r ≡ false → tree_weight G F r ≡ 0
 no_root_no_weight {G} {F} R r none =
     sum_below_same G.households _ (λ v. 0) (λ v l. elim (cases_Bool (inside F r v)) [
-      | inl in' ↦ absurd (both_ways _ none (R.rooted v r (eqb-true _ _ in')).1)
+      | inl in' ↦ absurd (both_ways _ none (R.rooted v r (tree_same _ r in')).1)
       | inr out ↦ cond-false {A = ℕ} (inside F r v) (G.weight v) 0 out
     ]) ∙ sum_below_none G.households

@@ -26,7 +26,7 @@ use Rattle.forest.specs.Fewest.{target, fewest, Fewest}
 use Rattle.forest.specs.Layers.{packed_charges, packed_number}
 use Rattle.forest.proofs.Sums.{cond_le}
 use Rattle.forest.proofs.Firsts.{first_passes}
-use Rattle.forest.proofs.Trees.{Fair, Right, planted_right, plant_induct, grow_induct, grow_joins, forest_right}
+use Rattle.forest.proofs.Trees.{Fair, Right, tree_same, planted_right, plant_induct, grow_induct, grow_joins, forest_right}
 use Rattle.forest.proofs.Paying.{differ, crossed, hit, cuts, taken_sum, all_paid, join_sum, reaches}
 use Rattle.forest.proofs.Fewest.{fewest_words, fewest_alone, fewest_most}
 use Rattle.forest.proofs.Greedy.{Least, no_root_no_weight, least_fewest, short_fewest, fewest_same}
@@ -77,7 +77,7 @@ module _ {G : Ground} (fair : Fair G) where
         let test : ℕ → Bool = λ v. inside (forest G) r v && across v in
         let v : ℕ = first test G.households in
         let p = and_parts (inside (forest G) r v) _ (first_passes test G.households (ltb-true _ _ h)) in
-        ((forest_right fair).rooted v r (eqb-true _ _ p.0)).1
+        ((forest_right fair).rooted v r (tree_same _ r p.0)).1
 
     pub number_paid : fewest G (forest G) (target G (forest G) least_weight) ≤ cuts G across (forest G)
     number_paid =

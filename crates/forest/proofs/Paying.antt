@@ -1,7 +1,9 @@
 -- A bisection that keeps the home lot cuts at least as many taken links as it hits trees. Assumes nothing.
-use Rattle.std.proofs.Common.{◌≡◌, ℕ, suc, ◌+◌, ◌-◌, ◌<◌, ◌≤◌, Bool, true, false, cond, not, ◌&&◌, eqb, ltb, get_or, sym, ap, ◌∙◌, inl, inr, arith}
+use Rattle.std.proofs.Common.{◌≡◌, ℕ, ◌+◌, ◌<◌, ◌≤◌, Bool, true, false, cond, not, ◌&&◌, eqb, ltb, Some, None, Option, is_none, get_or, sym, ap, ◌∙◌, inl, inr, arith}
+use Rattle.std.specs.Option.{option_eq}
+use Rattle.std.proofs.lemmas.Option.{none-some}
 use Rattle.std.proofs.lemmas.List.{get_or_past}
-use Rattle.std.proofs.lemmas.Bool.{le-ltb, cases_eq, cases_lt, cases_Bool, and_from, and_left, and_right, eq-eqb, ne_eqb, cond-true, cond-false}
+use Rattle.std.proofs.lemmas.Bool.{le-ltb, cases_eq, cases_lt, cases_Bool, and_from, and_left, and_right, cond-true, cond-false}
 use Rattle.bounds.specs.Sums.{sum_below}
 use Rattle.bounds.proofs.Indexed.{sum_below_same, sum_below_le, sum_below_add, sum_below_none, sum_below_swap, sum_below_has}
 use Rattle.forest.specs.Searches.{first, count_below}
@@ -9,7 +11,7 @@ use Rattle.forest.specs.Grounds.{Ground, weight_of}
 use Rattle.forest.specs.Forests.{Forest, joined, no_tree, planted, inside, outside, can_grow, grow, forest, tree_weight}
 use Rattle.forest.proofs.Sums.{sum_step, sum_rise, cond_sum, cond_most}
 use Rattle.forest.proofs.Firsts.{first_same, first_none, some_at, none_at}
-use Rattle.forest.proofs.Trees.{Fair, Ends, Right, Joins, was_free, tree_off, taken_at, taken_off, others_same, plant_induct, grow_induct, grow_joins, planted_right, get_or_zeros}
+use Rattle.forest.proofs.Trees.{Fair, Ends, Right, Joins, cases_tree, same_tree, other_tree, was_free, tree_off, taken_at, taken_off, others_same, plant_induct, grow_induct, grow_joins, planted_right, same_each}
 
 -- one of two lies across, the other not
 abbrev pub differ : Bool → Bool → Bool
@@ -43,11 +45,11 @@ and_second : (x y : Bool) → x ≡ true → (x && y) ≡ false → y ≡ false
 and_second x y e h = rw e at h
 
 -- a household in a tree is there
-pub in_range : {G : Ground} {F : Forest} (v r : ℕ) → Right G F → get_or F.tree v 0 ≡ suc r → v < G.households
+pub in_range : {G : Ground} {F : Forest} (v r : ℕ) → Right G F → get_or F.tree v None ≡ Some r → v < G.households
 in_range {G} {F} v r R e =
     elim (cases_lt v G.households) [
       | inl l ↦ l
-      | inr g ↦ absurd (omega (arith, get_or_past F.tree v 0 (omega (arith, R.long))))
+      | inr g ↦ absurd (none-some r (sym (get_or_past F.tree v None (omega (arith, R.long))) ∙ e))
     ]
 
 module _ {G : Ground} {F : Forest} {u v r k : ℕ} (R : Right G F) (J : Joins G F u v r k) where
@@ -73,7 +75,7 @@ module _ {G : Ground} {F : Forest} {u v r k : ℕ} (R : Right G F) (J : Joins G 
               | inl e ↦
                   let none : across w ≡ false = ap across e ∙ stays in
                   and_right (inside (joined F v r k) r w) _ none ∙ sym (and_right (inside F r w) _ none)
-              | inr e ↦ ap (λ x. eqb x (suc r) && across w) (tree_off R J w e)
+              | inr e ↦ ap (λ x. option_eq eqb x (Some r) && across w) (tree_off R J w e)
             ]
 
     -- where the household lies across and the tree was not hit before, the link is crossed
@@ -121,7 +123,7 @@ module _ {G : Ground} (fair : Fair G) (across : ℕ → Bool) (agrees : (v : ℕ
           (omega (
             arith,
             first_none (λ v. inside (no_tree G) r v && across v) G.households
-                (λ j l. and_left _ (across j) (ne_eqb (get_or (no_tree G).tree j 0) (suc r) (λ z. omega (arith, get_or_zeros G.households j)))),
+                (λ j l. and_left _ (across j) (other_tree _ r (λ z. none-some r (sym (same_each {A = Option ℕ} G.households j None) ∙ z)))),
           ))
 
   pub all_paid : hits G across (forest G) ≤ cuts G across (forest G)
@@ -138,7 +140,7 @@ module _ {G : Ground} (fair : Fair G) (across : ℕ → Bool) (agrees : (v : ℕ
       step F r R can p =
           let j = grow_joins fair r R can in
           join_pays R j.2 across (λ far was.
-          and_second (inside F r j.0) (across j.0) (eq-eqb _ _ j.1)
+          and_second (inside F r j.0) (across j.0) (same_tree _ r j.1)
           (none_at (λ w. inside F r w && across w) G.households j.0 was (in_range j.0 r R j.1))) p
 
 -- ---- the trees hit weigh at least what lies across, less what is set there, less what is in no tree
@@ -165,13 +167,11 @@ module _ {G : Ground} {F : Forest} (R : Right G F) (across : ℕ → Bool)
             elim (cases_Bool (G.unset v)) [
               | inr was ↦ omega (arith, here, cond-true {A = ℕ} (G.away v) (G.weight v) 0 (set_across v far was))
               | inl free ↦
-                  elim (cases_eq (get_or F.tree v 0) 0) [
+                  elim (cases_tree (get_or F.tree v None)) [
                     | inl none ↦
-                        omega (arith, here, cond-true {A = ℕ} (outside G F v) (G.weight v) 0 (and_from _ _ free (eq-eqb _ _ none)))
-                    | inr some' ↦
-                        let r : ℕ = get_or F.tree v 0 - 1 in
-                        let mine : get_or F.tree v 0 ≡ suc r = omega arith in
-                        let in' : inside F r v ≡ true = eq-eqb _ _ mine in
+                        omega (arith, here, cond-true {A = ℕ} (outside G F v) (G.weight v) 0 (and_from _ _ free (ap is_none none)))
+                    | inr (r, mine) ↦
+                        let in' : inside F r v ≡ true = same_tree _ r mine in
                         let was : hit G across F r ≡ true = some_at (λ w. inside F r w && across w) G.households v l (and_from _ _ in' far) in
                         omega (
                           arith,

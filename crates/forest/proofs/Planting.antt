@@ -1,11 +1,11 @@
 -- Which households are roots, and what is planted before any tree grows. Assumes nothing.
-use Rattle.std.proofs.Common.{◌≡◌, ℕ, suc, ◌<◌, true, false, eqb, ◌⊎◌, get_or, Decides, sym, ap, ◌∙◌, inl, inr, arith}
+use Rattle.std.proofs.Common.{◌≡◌, ℕ, suc, ◌<◌, true, false, eqb, ◌⊎◌, Some, None, Option, get_or, Decides, sym, ap, ◌∙◌, inl, inr, arith}
 use Rattle.std.proofs.lemmas.Bool.{cases_eq, and_parts, and_from, ltb-true, lt-ltb, both_ways}
 use Rattle.forest.specs.Grounds.{Ground, leads}
 use Rattle.forest.specs.Forests.{Forest, root_link, is_root, Roots, joined, no_tree, planted}
 use Rattle.forest.specs.Laws.{Planting}
 use Rattle.forest.proofs.Firsts.{first_is, first_passes, first_least}
-use Rattle.forest.proofs.Trees.{Fair, Right, Joins, Sown, tree_at, tree_off, taken_at, taken_off, get_or_zeros, plant_induct}
+use Rattle.forest.proofs.Trees.{Fair, Right, Joins, Sown, tree_at, tree_off, taken_at, taken_off, same_each, plant_induct}
 
 -- ---- a root and its link
 
@@ -34,7 +34,7 @@ module _ (G : Ground) (v : ℕ) where
 -- the households below n are planted where they are roots
 record Planted (G : Ground) (n : ℕ) (F : Forest) : Type 0 where
   sown : Sown G n F
-  alone : (v : ℕ) → v < n → (is_root G v ≡ true → get_or F.tree v 0 ≡ suc v) × (is_root G v ≡ false → get_or F.tree v 0 ≡ 0)
+  alone : (v : ℕ) → v < n → (is_root G v ≡ true → get_or F.tree v None ≡ Some v) × (is_root G v ≡ false → get_or F.tree v None ≡ None)
   links : (k : ℕ) → (get_or F.taken k 0 ≡ 0) ⊎ ((get_or F.taken k 0 ≡ 1) × ((v : ℕ) × (v < G.households) × Roots G v k))
   taken : (v : ℕ) → v < n → is_root G v ≡ true → get_or F.taken (root_link G v) 0 ≡ 1
 
@@ -42,9 +42,9 @@ module _ {G : Ground} (fair : Fair G) where
   nothing : Planted G 0 (no_tree G)
   nothing =
       record {
-        sown = λ v l. get_or_zeros G.households v;
+        sown = λ v l. same_each {A = Option ℕ} G.households v None;
         alone = λ v l. absurd (omega arith);
-        links = λ k. inl (get_or_zeros G.links k);
+        links = λ k. inl (same_each {A = ℕ} G.links k 0);
         taken = λ v l. absurd (omega arith);
       }
 
@@ -56,7 +56,7 @@ module _ {G : Ground} (fair : Fair G) where
         sown = λ w l. tree_off R J w (λ e. omega arith) ∙ P.sown w (omega arith);
         alone = λ w l. elim (cases_eq w v) [
           | inl e ↦ (
-            λ _. ap (λ x. get_or H.tree x 0) e ∙ tree_at R J ∙ ap suc (sym e),
+            λ _. ap (λ x. get_or H.tree x None) e ∙ tree_at R J ∙ ap Some (sym e),
             λ none. absurd (both_ways _ none (ap (is_root G) e ∙ root)),
           )
           | inr ne ↦

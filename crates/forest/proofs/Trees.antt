@@ -1,7 +1,9 @@
 -- What every forest keeps, from the roots on. Assumes nothing.
-use Rattle.std.proofs.Common.{◌≡◌, ℕ, zero, suc, ◌<◌, ◌≤◌, Bool, true, false, ◌&&◌, eqb, ltb, ◌⊎◌, length, get_or, replicate, sym, refl, ap, ◌∙◌, subst, inl, inr, arith}
+use Rattle.std.proofs.Common.{◌≡◌, ℕ, zero, suc, ◌<◌, ◌≤◌, Bool, true, false, ◌&&◌, eqb, ltb, ◌⊎◌, Some, None, Option, is_none, length, get_or, replicate, sym, refl, ap, ◌∙◌, subst, inl, inr, arith}
+use Rattle.std.specs.Option.{option_eq}
+use Rattle.std.proofs.lemmas.Option.{same_Some, none-some}
 use Rattle.std.proofs.lemmas.List.{length-set, get_or-set_same, get_or-set_other, length-replicate}
-use Rattle.std.proofs.lemmas.Bool.{cases_eq, cases_lt, cases_Bool, and_parts, and_from, and_left, and_right, or_cases, eqb-true, eq-eqb, ne_eqb, ltb-true, lt-ltb, le-ltb, both_ways, cond-true, cond-false}
+use Rattle.std.proofs.lemmas.Bool.{cases_eq, cases_lt, cases_Bool, and_parts, and_from, and_left, and_right, or_cases, eqb-true, eq-eqb, ne_eqb, ltb-true, lt-ltb, le-ltb, both_ways, cond-true, cond-false, false≢true}
 use Rattle.forest.specs.Grounds.{Ground, leads}
 use Rattle.forest.specs.Forests.{Forest, root_link, is_root, joined, no_tree, plant, planted, inside, outside, grow_link, can_grow, far_end, none_lighter, lightest, grow, grown, forest}
 use Rattle.forest.proofs.Firsts.{first_passes}
@@ -15,6 +17,27 @@ pub record Fair (G : Ground) : Type 0 where
 abbrev pub Ends : Ground → ℕ → ℕ → ℕ → Type 0
 Ends G k u v = ((G.from k ≡ u) × (G.to k ≡ v)) ⊎ ((G.to k ≡ u) × (G.from k ≡ v))
 
+-- ---- the tree that a household is in, if any
+
+pub cases_tree : (o : Option ℕ) → (o ≡ None) ⊎ ((r : ℕ) × (o ≡ Some r))
+cases_tree None = inl refl
+cases_tree (Some r) = inr (r, refl)
+
+pub same_tree : (o : Option ℕ) (r : ℕ) → o ≡ Some r → option_eq eqb o (Some r) ≡ true
+same_tree o r e = rw e (eq-eqb r r refl)
+
+pub tree_same : (o : Option ℕ) (r : ℕ) → option_eq eqb o (Some r) ≡ true → o ≡ Some r
+tree_same None r e = absurd (false≢true e)
+tree_same (Some q) r e = ap Some (eqb-true q r e)
+
+pub other_tree : (o : Option ℕ) (r : ℕ) → (o ≡ Some r → ⊥) → option_eq eqb o (Some r) ≡ false
+other_tree None r ne = refl
+other_tree (Some q) r ne = ne_eqb q r (λ e. ne (ap Some e))
+
+pub no_tree_none : (o : Option ℕ) → is_none o ≡ true → o ≡ None
+no_tree_none None e = refl
+no_tree_none (Some r) e = absurd (false≢true e)
+
 pub record Right (G : Ground) (F : Forest) : Type 0 where
   pub long : length F.tree ≡ G.households
   pub links_long : length F.taken ≡ G.links
@@ -24,7 +47,7 @@ pub record Right (G : Ground) (F : Forest) : Type 0 where
   -- no end of a taken link is unset and outside all trees
   pub held : (k : ℕ) → 1 ≤ get_or F.taken k 0 → (outside G F (G.from k) ≡ false) × (outside G F (G.to k) ≡ false)
   -- a household in a tree is in that of a root
-  pub rooted : (v r : ℕ) → get_or F.tree v 0 ≡ suc r → (r < G.households) × (is_root G r ≡ true)
+  pub rooted : (v r : ℕ) → get_or F.tree v None ≡ Some r → (r < G.households) × (is_root G r ≡ true)
 
 -- household v joins the tree of root r by link k, of which u is the other end
 pub record Joins (G : Ground) (F : Forest) (u v r k : ℕ) : Type 0 where
@@ -37,25 +60,25 @@ pub record Joins (G : Ground) (F : Forest) (u v r k : ℕ) : Type 0 where
   pub root : (r < G.households) × (is_root G r ≡ true)
 
 -- who is in a tree is not outside
-pub in_tree : (G : Ground) (F : Forest) (w : ℕ) → 1 ≤ get_or F.tree w 0 → outside G F w ≡ false
-in_tree G F w l = and_right (G.unset w) _ (ne_eqb (get_or F.tree w 0) 0 (λ z. omega arith))
+pub in_tree : (G : Ground) (F : Forest) (w r : ℕ) → get_or F.tree w None ≡ Some r → outside G F w ≡ false
+in_tree G F w r e = and_right (G.unset w) _ (ap is_none e)
 
 -- a household in no tree joins tree r: every other tree is as it was
-pub tree_others : (F : Forest) (v r k : ℕ) → v < length F.tree → get_or F.tree v 0 ≡ 0
+pub tree_others : (F : Forest) (v r k : ℕ) → v < length F.tree → get_or F.tree v None ≡ None
     → (q : ℕ) → (q ≡ r → ⊥) → (w : ℕ) → inside (joined F v r k) q w ≡ inside F q w
 tree_others F v r k there out q ne w =
     elim (cases_eq w v) [
       | inl e ↦
-          let now' : get_or (joined F v r k).tree w 0 ≡ suc r = ap (λ x. get_or (joined F v r k).tree x 0) e ∙ get_or-set_same F.tree v (suc r) 0 there in
-          let before : get_or F.tree w 0 ≡ 0 = ap (λ x. get_or F.tree x 0) e ∙ out in
-          ne_eqb _ _ (λ (z : get_or (joined F v r k).tree w 0 ≡ suc q). ne (omega arith))
-          ∙ sym (ne_eqb _ _ (λ (z : get_or F.tree w 0 ≡ suc q). omega arith))
-      | inr e ↦ ap (λ x. eqb x (suc q)) (get_or-set_other F.tree v w (suc r) 0 e)
+          let now' : get_or (joined F v r k).tree w None ≡ Some r = ap (λ x. get_or (joined F v r k).tree x None) e ∙ get_or-set_same F.tree v (Some r) None there in
+          let before : get_or F.tree w None ≡ None = ap (λ x. get_or F.tree x None) e ∙ out in
+          other_tree _ _ (λ z. ne (same_Some q r (sym z ∙ now')))
+          ∙ sym (other_tree _ _ (λ z. none-some q (sym before ∙ z)))
+      | inr e ↦ ap (λ x. option_eq eqb x (Some q)) (get_or-set_other F.tree v w (Some r) None e)
     ]
 
 module _ {G : Ground} {F : Forest} {u v r k : ℕ} (R : Right G F) (J : Joins G F u v r k) where
-  pub was_out : get_or F.tree v 0 ≡ 0
-  was_out = eqb-true _ _ (and_parts _ _ J.far).1
+  pub was_out : get_or F.tree v None ≡ None
+  was_out = no_tree_none _ (and_parts _ _ J.far).1
 
   pub was_free : get_or F.taken k 0 ≡ 0
   was_free =
@@ -67,11 +90,11 @@ module _ {G : Ground} {F : Forest} {u v r k : ℕ} (R : Right G F) (J : Joins G 
       end : (outside G F (G.from k) ≡ false) × (outside G F (G.to k) ≡ false) → outside G F v ≡ false
       end h = elim J.ends [ inl e ↦ rw e.1 at h.1 | inr e ↦ rw e.1 at h.0 ]
 
-  pub tree_at : get_or (joined F v r k).tree v 0 ≡ suc r
-  tree_at = get_or-set_same F.tree v (suc r) 0 (omega (arith, R.long, J.there))
+  pub tree_at : get_or (joined F v r k).tree v None ≡ Some r
+  tree_at = get_or-set_same F.tree v (Some r) None (omega (arith, R.long, J.there))
 
-  pub tree_off : (w : ℕ) → (w ≡ v → ⊥) → get_or (joined F v r k).tree w 0 ≡ get_or F.tree w 0
-  tree_off w ne = get_or-set_other F.tree v w (suc r) 0 ne
+  pub tree_off : (w : ℕ) → (w ≡ v → ⊥) → get_or (joined F v r k).tree w None ≡ get_or F.tree w None
+  tree_off w ne = get_or-set_other F.tree v w (Some r) None ne
 
   pub taken_at : get_or (joined F v r k).taken k 0 ≡ 1
   taken_at = get_or-set_same F.taken k 1 0 (omega (arith, R.links_long, J.link))
@@ -86,12 +109,12 @@ module _ {G : Ground} {F : Forest} {u v r k : ℕ} (R : Right G F) (J : Joins G 
   pub still_in : (w : ℕ) → outside G F w ≡ false → outside G (joined F v r k) w ≡ false
   still_in w h =
       elim (cases_eq w v) [
-        | inl e ↦ in_tree G (joined F v r k) w (omega (arith, ap (λ x. get_or (joined F v r k).tree x 0) e, tree_at))
-        | inr e ↦ ap (λ x. G.unset w && eqb x 0) (tree_off w e) ∙ h
+        | inl e ↦ in_tree G (joined F v r k) w r (ap (λ x. get_or (joined F v r k).tree x None) e ∙ tree_at)
+        | inr e ↦ ap (λ x. G.unset w && is_none x) (tree_off w e) ∙ h
       ]
 
   pub now_in : outside G (joined F v r k) v ≡ false
-  now_in = in_tree G (joined F v r k) v (omega (arith, tree_at))
+  now_in = in_tree G (joined F v r k) v r tree_at
 
   ends_in : (outside G (joined F v r k) (G.from k) ≡ false) × (outside G (joined F v r k) (G.to k) ≡ false)
   ends_in =
@@ -103,7 +126,7 @@ module _ {G : Ground} {F : Forest} {u v r k : ℕ} (R : Right G F) (J : Joins G 
   pub join_right : Right G (joined F v r k)
   join_right =
       record {
-        long = length-set F.tree v (suc r) ∙ R.long;
+        long = length-set F.tree v (Some r) ∙ R.long;
         links_long = length-set F.taken k 1 ∙ R.links_long;
         once = λ j. elim (cases_eq j k) [
           | inl e ↦ omega (arith, ap (λ x. get_or (joined F v r k).taken x 0) e, taken_at)
@@ -119,7 +142,7 @@ module _ {G : Ground} {F : Forest} {u v r k : ℕ} (R : Right G F) (J : Joins G 
         ];
         rooted = λ w q is. elim (cases_eq w v) [
           | inl e ↦
-              let same : r ≡ q = omega (arith, ap (λ x. get_or (joined F v r k).tree x 0) e, tree_at) in
+              let same : r ≡ q = same_Some r q (sym tree_at ∙ sym (ap (λ x. get_or (joined F v r k).tree x None) e) ∙ is) in
               subst (λ x. (x < G.households) × (is_root G x ≡ true)) same J.root
           | inr e ↦ R.rooted w q (sym (tree_off w e) ∙ is)
         ];
@@ -127,20 +150,21 @@ module _ {G : Ground} {F : Forest} {u v r k : ℕ} (R : Right G F) (J : Joins G 
 
 -- ---- nothing is planted yet
 
-pub get_or_zeros : (n k : ℕ) → ◌≡◌ {A = ℕ} (get_or (replicate n 0) k 0) 0
-get_or_zeros zero k = refl
-get_or_zeros (suc n) zero = refl
-get_or_zeros (suc n) (suc k) = get_or_zeros n k
+-- the same stands at every place
+pub same_each : {A : Type 0} (n k : ℕ) (a : A) → get_or (replicate n a) k a ≡ a
+same_each zero k a = refl
+same_each (suc n) zero a = refl
+same_each (suc n) (suc k) a = same_each n k a
 
 pub no_tree_right : (G : Ground) → Right G (no_tree G)
 no_tree_right G =
     record {
-      long = length-replicate G.households 0;
+      long = length-replicate G.households None;
       links_long = length-replicate G.links 0;
-      once = λ k. omega (arith, get_or_zeros G.links k);
-      only_usable = λ k l. absurd (omega (arith, get_or_zeros G.links k));
-      held = λ k l. absurd (omega (arith, get_or_zeros G.links k));
-      rooted = λ v r is. absurd (omega (arith, get_or_zeros G.households v));
+      once = λ k. omega (arith, same_each {A = ℕ} G.links k 0);
+      only_usable = λ k l. absurd (omega (arith, same_each {A = ℕ} G.links k 0));
+      held = λ k l. absurd (omega (arith, same_each {A = ℕ} G.links k 0));
+      rooted = λ v r is. absurd (none-some r (sym (same_each {A = Option ℕ} G.households v None) ∙ is));
     }
 
 -- ---- a link that leads from one test to another
@@ -181,11 +205,11 @@ grown_end G (suc i) F l = cond-false (ltb (lightest G F) G.households) _ _ (le-l
 
 -- the roots below n alone are in trees
 abbrev pub Sown : Ground → ℕ → Forest → Type 0
-Sown G n F = (v : ℕ) → n ≤ v → get_or F.tree v 0 ≡ 0
+Sown G n F = (v : ℕ) → n ≤ v → get_or F.tree v None ≡ None
 
 module _ {G : Ground} (fair : Fair G) where
   -- what planting household v does, where it is a root
-  pub plant_joins : (F : Forest) (v : ℕ) → v < G.households → get_or F.tree v 0 ≡ 0 → is_root G v ≡ true
+  pub plant_joins : (F : Forest) (v : ℕ) → v < G.households → get_or F.tree v None ≡ None → is_root G v ≡ true
       → (u : ℕ) × (G.home u ≡ true) × Joins G F u v v (root_link G v)
   plant_joins F v lt out root =
       let p = and_parts (G.unset v) _ root in
@@ -204,20 +228,20 @@ module _ {G : Ground} (fair : Fair G) where
             | inl f ↦ absurd (both_ways _ (fair.apart led.u f) led.near_end)
             | inr f ↦ and_left _ _ f
           ];
-          far = and_from _ _ p.0 (eq-eqb _ _ out);
+          far = and_from _ _ p.0 (ap is_none out);
           root = (lt, root);
         },
       )
 
   -- what growing tree r does, where it can grow
   pub grow_joins : {F : Forest} (r : ℕ) → Right G F → can_grow G F r ≡ true
-      → (u : ℕ) × (get_or F.tree u 0 ≡ suc r) × Joins G F u (far_end G F (grow_link G F r)) r (grow_link G F r)
+      → (u : ℕ) × (get_or F.tree u None ≡ Some r) × Joins G F u (far_end G F (grow_link G F r)) r (grow_link G F r)
   grow_joins {F} r R can =
       let k : ℕ = grow_link G F r in
       let kl : k < G.links = ltb-true _ _ can in
       let led = leads_led G (inside F r) (outside G F) k (first_passes (leads G (inside F r) (outside G F)) G.links kl) in
-      let mine : get_or F.tree led.u 0 ≡ suc r = eqb-true _ _ led.near_end in
-      let near : outside G F led.u ≡ false = in_tree G F led.u (omega (arith, mine)) in
+      let mine : get_or F.tree led.u None ≡ Some r = tree_same _ r led.near_end in
+      let near : outside G F led.u ≡ false = in_tree G F led.u r mine in
       let there : far_end G F k ≡ led.v = end k led.u led.v led.ends near led.far_end in (
         led.u,
         mine,
@@ -252,7 +276,7 @@ module _ {G : Ground} (fair : Fair G) where
       ]
 
   pub planted_right : (n : ℕ) → n ≤ G.households → Right G (planted G n) × Sown G n (planted G n)
-  planted_right zero l = (no_tree_right G, λ v b. get_or_zeros G.households v)
+  planted_right zero l = (no_tree_right G, λ v b. same_each {A = Option ℕ} G.households v None)
   planted_right (suc v) l =
       let F : Forest = planted G v in
       let ih = planted_right v (omega arith) in

@@ -1,18 +1,20 @@
 -- What each tree weighs as households join, and which trees stay closed. Assumes nothing.
-use Rattle.std.proofs.Common.{◌≡◌, ℕ, zero, suc, ◌+◌, ◌*◌, ◌<◌, ◌≤◌, true, false, cond, eqb, List, length, get_or, set, sym, ap, ◌∙◌, inl, inr, arith}
+use Rattle.std.proofs.Common.{◌≡◌, ℕ, zero, suc, ◌+◌, ◌*◌, ◌<◌, ◌≤◌, true, false, cond, eqb, Some, None, length, get_or, sym, ap, ◌∙◌, inl, inr, arith}
+use Rattle.std.specs.Option.{option_eq}
+use Rattle.std.proofs.lemmas.Option.{none-some}
 use Rattle.std.proofs.lemmas.List.{get_or-set_same, get_or-set_other}
-use Rattle.std.proofs.lemmas.Bool.{cases_eq, cases_Bool, and_parts, and_from, or_cases, or_left, or_right, eq-eqb, ne_eqb, le-ltb, ltb-false, both_ways, cond-true, cond-false}
+use Rattle.std.proofs.lemmas.Bool.{cases_eq, cases_Bool, and_parts, and_from, or_cases, or_left, or_right, le-ltb, ltb-false, both_ways, cond-true, cond-false}
 use Rattle.bounds.specs.Sums.{sum_below}
 use Rattle.bounds.proofs.Indexed.{sum_below_same, sum_below_le}
 use Rattle.forest.specs.Grounds.{Ground, leads, weight_of}
 use Rattle.forest.specs.Forests.{Forest, joined, inside, outside, can_grow, tree_weight}
 use Rattle.forest.proofs.Sums.{sum_step, sum_rise, cond_most}
 use Rattle.forest.proofs.Firsts.{first_least, first_none}
-use Rattle.forest.proofs.Trees.{Right, Joins, tree_others, others_same, still_in}
+use Rattle.forest.proofs.Trees.{Right, Joins, same_tree, other_tree, tree_others, others_same, still_in}
 
 -- the weights by root
-abbrev pub Weighed : Ground → Forest → List ℕ → Type 0
-Weighed G F ws = (r : ℕ) → r < G.households → get_or ws r 0 ≡ tree_weight G F r
+abbrev pub Weighed : Ground → Forest → (ℕ → ℕ) → Type 0
+Weighed G F w = (r : ℕ) → r < G.households → w r ≡ tree_weight G F r
 
 pub tree_weight_most : (G : Ground) (F : Forest) (r : ℕ) → tree_weight G F r ≤ weight_of G (λ v. true)
 tree_weight_most G F r = sum_below_le G.households _ _ (λ v l. cond_most (inside F r v) (G.weight v))
@@ -23,15 +25,15 @@ sum_most (suc n) c f h = omega (arith, sum_most n c f (λ k l. h k (omega arith)
 
 -- household v, in no tree, joins the tree with root r
 module _ (G : Ground) (F : Forest) (v r k : ℕ) (trees : length F.tree ≡ G.households) (there : v < G.households)
-    (out : get_or F.tree v 0 ≡ 0) (root : r < G.households) where
+    (out : get_or F.tree v None ≡ None) (root : r < G.households) where
   pub join_weight : tree_weight G (joined F v r k) r ≡ tree_weight G F r + G.weight v
   join_weight =
       let f : ℕ → ℕ = λ w. cond (inside (joined F v r k) r w) (G.weight w) 0 in
       let g : ℕ → ℕ = λ w. cond (inside F r w) (G.weight w) 0 in
-      let now' : f v ≡ G.weight v = cond-true (inside (joined F v r k) r v) _ _ (eq-eqb _ _ (get_or-set_same F.tree v (suc r) 0 (omega arith))) in
-      let was : g v ≡ 0 = cond-false (inside F r v) _ _ (ne_eqb (get_or F.tree v 0) (suc r) (λ e. omega arith)) in
+      let now' : f v ≡ G.weight v = cond-true (inside (joined F v r k) r v) _ _ (same_tree _ r (get_or-set_same F.tree v (Some r) None (omega arith))) in
+      let was : g v ≡ 0 = cond-false (inside F r v) _ _ (other_tree _ r (λ e. none-some r (sym out ∙ e))) in
       let same : (w : ℕ) → (w ≡ v → ⊥) → f w ≡ g w = λ w ne.
-      ap (λ x. cond (eqb x (suc r)) (G.weight w) 0) (get_or-set_other F.tree v w (suc r) 0 ne) in
+      ap (λ x. cond (option_eq eqb x (Some r)) (G.weight w) 0) (get_or-set_other F.tree v w (Some r) None ne) in
       omega (
         arith,
         sum_step G.households v (G.weight v) f g (λ w l ne. omega (arith, same w ne)) (omega arith),
@@ -41,16 +43,13 @@ module _ (G : Ground) (F : Forest) (v r k : ℕ) (trees : length F.tree ≡ G.ho
   pub other_weight : (q : ℕ) → (q ≡ r → ⊥) → tree_weight G (joined F v r k) q ≡ tree_weight G F q
   other_weight q ne = sum_below_same G.households _ _ (λ w l. ap (λ b. cond b (G.weight w) 0) (tree_others F v r k (omega arith) out q ne w))
 
-  pub join_weighed : (ws : List ℕ) → length ws ≡ G.households → Weighed G F ws
-      → Weighed G (joined F v r k) (set ws r (get_or ws r 0 + G.weight v))
-  join_weighed ws long W q l =
+  -- where the weight at its root rises by as much, and no other changes
+  pub join_weighed : (w x : ℕ → ℕ) → Weighed G F w → x r ≡ w r + G.weight v → ((q : ℕ) → (q ≡ r → ⊥) → x q ≡ w q)
+      → Weighed G (joined F v r k) x
+  join_weighed w x W rises others q l =
       elim (cases_eq q r) [
-        | inl e ↦
-            ap (λ x. get_or (set ws r (get_or ws r 0 + G.weight v)) x 0) e
-            ∙ get_or-set_same ws r (get_or ws r 0 + G.weight v) 0 (omega arith)
-            ∙ ap (λ x. x + G.weight v) (W r root)
-            ∙ sym join_weight ∙ ap (tree_weight G (joined F v r k)) (sym e)
-        | inr ne ↦ get_or-set_other ws r q _ 0 ne ∙ W q l ∙ sym (other_weight q ne)
+        | inl e ↦ ap x e ∙ rises ∙ ap (λ y. y + G.weight v) (W r root) ∙ sym join_weight ∙ ap (tree_weight G (joined F v r k)) (sym e)
+        | inr ne ↦ others q ne ∙ W q l ∙ sym (other_weight q ne)
       ]
 
 module _ {G : Ground} {F : Forest} {u v r k : ℕ} (R : Right G F) (J : Joins G F u v r k) where

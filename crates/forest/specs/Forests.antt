@@ -1,13 +1,18 @@
 -- Trees, and how they grow. Assumes nothing.
-use Rattle.std.specs.Prelude.{◌≡◌, ℕ, zero, suc, ◌<◌, ◌≤◌, Bool, true, false, cond, not, ◌&&◌, ◌||◌, ◌⊎◌, List, replicate, ◌==◌, nat_eq, nat_le, nat_lt, slice_index, slice_set}
+use Rattle.std.specs.Prelude.{◌≡◌, ℕ, zero, suc, ◌<◌, ◌≤◌, Bool, true, false, cond, not, ◌&&◌, ◌||◌, ◌⊎◌, List, replicate, nat_eq, nat_le, nat_lt, Some, None, Option, is_none, slice_index_or, slice_set}
+use Rattle.std.specs.Option.{option_eq}
 use Rattle.forest.specs.Searches.{first, all_below}
 use Rattle.forest.specs.Grounds.{Ground, leads, weight_of}
 
--- for each household 0 where it is in no tree, and r + 1 where it is in the tree with root r; for each link 1 where it is a
--- root link or a tree link, else 0
+-- for each household the root of its tree, or none where it is in no tree; for each link 1 where it is a root link or a tree
+-- link, else 0
 pub record Forest : Type 0 where
-  pub tree : List ℕ
+  pub tree : List (Option ℕ)
   pub taken : List ℕ
+
+-- the root of the tree that household v is in, or none
+abbrev pub root_of : Forest → ℕ → Option ℕ
+root_of F v = slice_index_or F.tree v None
 
 -- ---- roots
 
@@ -28,11 +33,11 @@ pub record Roots (G : Ground) (v k : ℕ) : Type 0 where
 
 -- household v joins the tree with root r by link k
 abbrev pub joined : Forest → ℕ → ℕ → ℕ → Forest
-joined F v r k = record { tree = slice_set F.tree v (suc r); taken = slice_set F.taken k 1 }
+joined F v r k = record { tree = slice_set F.tree v (Some r); taken = slice_set F.taken k 1 }
 
 -- no tree yet
 abbrev pub no_tree : Ground → Forest
-no_tree G = record { tree = replicate G.households 0; taken = replicate G.links 0 }
+no_tree G = record { tree = replicate G.households None; taken = replicate G.links 0 }
 
 -- household v is made a root where it is one
 abbrev pub plant : Ground → Forest → ℕ → Forest
@@ -47,11 +52,11 @@ planted G (suc v) = plant G (planted G v) v
 
 -- household v is in the tree with root r
 abbrev pub inside : Forest → ℕ → ℕ → Bool
-inside F r v = slice_index F.tree v == suc r
+inside F r v = option_eq nat_eq (root_of F v) (Some r)
 
 -- household v is unset and outside all trees
 abbrev pub outside : Ground → Forest → ℕ → Bool
-outside G F v = G.unset v && slice_index F.tree v == 0
+outside G F v = G.unset v && is_none (root_of F v)
 
 -- what a tree weighs
 abbrev pub tree_weight : Ground → Forest → ℕ → ℕ

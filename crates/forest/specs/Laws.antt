@@ -1,5 +1,5 @@
 -- What the packing layer adds, in words. Assumes nothing.
-use Rattle.std.specs.Prelude.{◌≡◌, ℕ, suc, ◌+◌, ◌<◌, true, false, ◌⊎◌, List, length, Decides, slice_index}
+use Rattle.std.specs.Prelude.{◌≡◌, ℕ, ◌+◌, ◌<◌, true, false, ◌⊎◌, List, length, Some, None, Decides, slice_index}
 use Rattle.parish.specs.Model.{Model, Sound}
 use Rattle.parish.specs.declared.items.Lot.{Lot}
 use Rattle.bisection.specs.Lots.{Lots}
@@ -7,7 +7,7 @@ use Rattle.bisection.specs.Meanings.{Meaning}
 use Rattle.bisection.specs.Weights.{least_lot_weight}
 use Rattle.bounds.specs.Bounds.{Bounds}
 use Rattle.forest.specs.Grounds.{Ground, ground_for}
-use Rattle.forest.specs.Forests.{Forest, is_root, Roots, planted, tree_weight, can_grow, Grows, forest}
+use Rattle.forest.specs.Forests.{Forest, root_of, is_root, Roots, planted, tree_weight, can_grow, Grows, forest}
 use Rattle.forest.specs.Fewest.{target, Fewest}
 use Rattle.forest.specs.Layers.{packed_charges, packed_number, packing_over}
 
@@ -16,7 +16,7 @@ pub record Planting (G : Ground) (F : Forest) : Type 0 where
   -- a household is a root just where it has a root link
   pub roots : (v : ℕ) → v < G.households → Decides (is_root G v) ((k : ℕ) × Roots G v k)
   -- each root is a tree of its own, and no other household is in one
-  pub alone : (v : ℕ) → v < G.households → (is_root G v ≡ true → slice_index F.tree v ≡ suc v) × (is_root G v ≡ false → slice_index F.tree v ≡ 0)
+  pub alone : (v : ℕ) → v < G.households → (is_root G v ≡ true → root_of F v ≡ Some v) × (is_root G v ≡ false → root_of F v ≡ None)
   -- just the root links are taken
   pub links : (k : ℕ) → k < G.links
       → (slice_index F.taken k ≡ 0) ⊎ ((slice_index F.taken k ≡ 1) × ((v : ℕ) × (v < G.households) × Roots G v k))

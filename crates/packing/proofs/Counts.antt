@@ -1,62 +1,63 @@
 -- Taking the heaviest weight again and again. Assumes nothing.
-use Rattle.std.proofs.Common.{◌≡◌, ℕ, suc, ◌+◌, ◌-◌, ◌<◌, ◌≤◌, eqb, List, length, get_or, set, sym, ap, ◌∙◌, subst, inl, inr, arith, get_or-set_other, get_or-set_same}
+use Rattle.std.proofs.Common.{◌≡◌, ℕ, suc, ◌+◌, ◌-◌, ◌<◌, ◌≤◌, eqb, List, length, length-set, set, sym, ap, ◌∙◌, subst, inl, inr, arith}
 use Rattle.std.proofs.lemmas.Bool.{cases_eq, eq-eqb, ne_eqb, cond-true, cond-false}
 use Rattle.bounds.specs.Sums.{sum_below}
 use Rattle.bounds.proofs.Indexed.{sum_below_same, sum_below_none}
 use Rattle.forest.proofs.Sums.{sum_step}
 use Rattle.forest.proofs.Greedy.{Least, without, least_none, least_more, least_same, reached_most}
+use Rattle.packing.specs.declared.growth.Tree.{Tree}
+use Rattle.packing.specs.Stands.{held_weight}
 use Rattle.packing.specs.Counting.{Counted}
+use Rattle.packing.proofs.Planted.{weight_at, weight_others}
 
 -- the weights after one is taken
-taken_at : (ws : List ℕ) (i k : ℕ) → i < length ws → get_or (set ws i 0) k 0 ≡ without (λ j. get_or ws j 0) i k
-taken_at ws i k lt =
+taken_at : (ts : List Tree) (i k : ℕ) (t : Tree) → t.weight ≡ 0 → i < length ts → held_weight (set ts i t) k ≡ without (held_weight ts) i k
+taken_at ts i k t none lt =
     elim (cases_eq k i) [
-      | inl e ↦ ap (λ x. get_or (set ws i 0) x 0) e ∙ get_or-set_same ws i 0 0 lt ∙ sym (cond-true (eqb k i) 0 (get_or ws k 0) (eq-eqb k i e))
-      | inr ne ↦ get_or-set_other ws i k 0 0 ne ∙ sym (cond-false (eqb k i) 0 (get_or ws k 0) (ne_eqb k i ne))
+      | inl e ↦ ap (held_weight (set ts i t)) e ∙ weight_at ts i t lt ∙ none ∙ sym (cond-true (eqb k i) 0 (held_weight ts k) (eq-eqb k i e))
+      | inr ne ↦ weight_others ts i t k ne ∙ sym (cond-false (eqb k i) 0 (held_weight ts k) (ne_eqb k i ne))
     ]
 
-taken_sum : (ws : List ℕ) (n i : ℕ) → sum_below n (λ k. get_or ws k 0) ≤ sum_below n (λ k. get_or (set ws i 0) k 0) + get_or ws i 0
-taken_sum ws n i =
-    sum_step n i (get_or ws i 0) (λ k. get_or ws k 0) (λ k. get_or (set ws i 0) k 0)
-    (λ k l ne. omega (arith, get_or-set_other ws i k 0 0 ne)) (omega arith)
+taken_sum : (ts : List Tree) (n i : ℕ) (t : Tree) → sum_below n (held_weight ts) ≤ sum_below n (held_weight (set ts i t)) + held_weight ts i
+taken_sum ts n i t = sum_step n i (held_weight ts i) (held_weight ts) (held_weight (set ts i t)) (λ k l ne. omega (arith, weight_others ts i t k ne)) (omega arith)
 
 -- before each turn: with the fewest for what is left, the count is the fewest for all
-pub record Counting (n : ℕ) (whole ws : List ℕ) (goal left count : ℕ) : Type 0 where
-  pub long : length ws ≡ n
+pub record Counting (n : ℕ) (whole ts : List Tree) (goal left count : ℕ) : Type 0 where
+  pub long : length ts ≡ n
   pub within : count + left ≤ goal
-  pub on : (c : ℕ) → Least n (λ k. get_or ws k 0) left c → Least n (λ k. get_or whole k 0) goal (count + c)
-  pub short : sum_below n (λ k. get_or ws k 0) < left → sum_below n (λ k. get_or whole k 0) < goal
+  pub on : (c : ℕ) → Least n (held_weight ts) left c → Least n (held_weight whole) goal (count + c)
+  pub short : sum_below n (held_weight ts) < left → sum_below n (held_weight whole) < goal
 
-pub counting_start : (ws : List ℕ) (goal : ℕ) → Counting (length ws) ws ws goal goal 0
+pub counting_start : (ws : List Tree) (goal : ℕ) → Counting (length ws) ws ws goal goal 0
 counting_start ws goal =
     record {
       long = omega arith;
       within = omega arith;
-      on = λ c h. let e : c ≡ 0 + c = omega arith in subst (Least (length ws) (λ k. get_or ws k 0) goal) e h;
+      on = λ c h. let e : c ≡ 0 + c = omega arith in subst (Least (length ws) (held_weight ws) goal) e h;
       short = λ h. h;
     }
 
-module _ {n : ℕ} {whole ws : List ℕ} {goal left count : ℕ} (C : Counting n whole ws goal left count) where
+module _ {n : ℕ} {whole ws : List Tree} {goal left count : ℕ} (C : Counting n whole ws goal left count) where
   -- the heaviest is taken
-  pub counting_more : (i rest : ℕ) → i < n → 0 < get_or ws i 0 → ((k : ℕ) → k < n → get_or ws k 0 ≤ get_or ws i 0) → 0 < left → rest ≡ left - get_or ws i 0
-      → length (set ws i 0) ≡ n → Counting n whole (set ws i 0) goal rest (count + 1)
-  counting_more i rest lt some most open' is long =
+  pub counting_more : (i rest : ℕ) (t : Tree) → t.weight ≡ 0 → i < n → 0 < held_weight ws i → ((k : ℕ) → k < n → held_weight ws k ≤ held_weight ws i) → 0 < left
+      → rest ≡ left - held_weight ws i → Counting n whole (set ws i t) goal rest (count + 1)
+  counting_more i rest t none lt some most open' is =
       record {
-        long = long;
+        long = length-set ws i t ∙ C.long;
         within = omega (arith, C.within);
         on = λ c L.
-            let L' : Least n (without (λ k. get_or ws k 0) i) (left - get_or ws i 0) c =
-            least_same n (λ k. get_or (set ws i 0) k 0) (without (λ k. get_or ws k 0) i) (left - get_or ws i 0) c (λ k l. taken_at ws i k (omega (arith, C.long)))
-            (subst (λ x. Least n (λ k. get_or (set ws i 0) k 0) x c) is L) in
+            let L' : Least n (without (held_weight ws) i) (left - held_weight ws i) c =
+            least_same n (held_weight (set ws i t)) (without (held_weight ws) i) (left - held_weight ws i) c (λ k l. taken_at ws i k t none (omega (arith, C.long)))
+            (subst (λ x. Least n (held_weight (set ws i t)) x c) is L) in
             let e : count + suc c ≡ count + 1 + c = omega arith in
-            subst (Least n (λ k. get_or whole k 0) goal) e (C.on (suc c) (least_more n (λ k. get_or ws k 0) i left c lt most open' L'));
-        short = λ h. C.short (omega (arith, taken_sum ws n i));
+            subst (Least n (held_weight whole) goal) e (C.on (suc c) (least_more n (held_weight ws) i left c lt most open' L'));
+        short = λ h. C.short (omega (arith, taken_sum ws n i t));
       }
 
   -- nothing is left to reach
-  pub counting_done : (trees : ℕ) → left ≡ 0 → Counted n (λ k. get_or whole k 0) trees goal count
-  counting_done trees end =
-      let L : Least n (λ k. get_or whole k 0) goal (count + 0) = C.on 0 (subst (λ x. Least n (λ k. get_or ws k 0) x 0) (sym end) (least_none n (λ k. get_or ws k 0))) in
+  pub counting_done : (all : ℕ) → left ≡ 0 → Counted n (held_weight whole) all goal count
+  counting_done all end =
+      let L : Least n (held_weight whole) goal (count + 0) = C.on 0 (subst (λ x. Least n (held_weight ws) x 0) (sym end) (least_none n (held_weight ws))) in
       record {
         short = λ h. absurd (omega (arith, reached_most n _ _ _ L));
         fewer = λ h p r. omega (arith, L.fewer p r);
@@ -64,9 +65,9 @@ module _ {n : ℕ} {whole ws : List ℕ} {goal left count : ℕ} (C : Counting n
       }
 
   -- no weight is left
-  pub counting_short : (trees : ℕ) → 0 < left → ((k : ℕ) → k < n → get_or ws k 0 ≡ 0) → Counted n (λ k. get_or whole k 0) trees goal trees
-  counting_short trees some none =
-      let z : sum_below n (λ k. get_or ws k 0) ≡ 0 = sum_below_same n (λ k. get_or ws k 0) (λ k. 0) none ∙ sum_below_none n in
+  pub counting_short : (all : ℕ) → 0 < left → ((k : ℕ) → k < n → held_weight ws k ≡ 0) → Counted n (held_weight whole) all goal all
+  counting_short all some none =
+      let z : sum_below n (held_weight ws) ≡ 0 = sum_below_same n (held_weight ws) (λ k. 0) none ∙ sum_below_none n in
       let less = C.short (omega arith) in
       record { short = λ h. omega arith; fewer = λ h. absurd (omega arith); choice = λ h. absurd (omega arith) }
 

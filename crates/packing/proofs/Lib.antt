@@ -1,4 +1,5 @@
 pub mod Questions
+pub mod Counts
+pub mod Named
 pub mod Planted
 pub mod Grown
-pub mod Counts

@@ -1,5 +1,5 @@
 // The layer itself.
-ghost use Rattle.std.specs.Prelude.{◌≡◌, ℕ, ◌+◌, ◌≤◌, length, slice_index};
+ghost use Rattle.std.specs.Prelude.{◌≡◌, ℕ, ◌+◌, ◌≤◌, length, slice_index, take};
 ghost use Rattle.parish.specs.Limits.{strongest_held};
 ghost use Rattle.parish.specs.View.{view};
 ghost use Rattle.bisection.specs.Weights.{least_lot_weight};
@@ -8,16 +8,13 @@ ghost use Rattle.bounds.specs.Consulting.{Consulted};
 ghost use Rattle.forest.specs.Grounds.{ground_for};
 ghost use Rattle.forest.specs.Layers.{packed_charges, packed_number, packing_over};
 ghost use Rattle.packing.specs.Grounded.{ground_of};
-ghost use Rattle.packing.specs.Stands.{Sized};
 ghost use Rattle.forest.proofs.Theorems.{packing_bounds};
 
-use super::counting::{fewest, target};
-use super::growing::grow;
-use super::planting::plant;
+use super::counting::fewest;
+use super::growth::Growth;
 use super::question::Question;
-use super::trees::{Trees, clear};
 use bounds::LowerBound;
-use parish::{Lot, MOST_HOUSEHOLDS, MOST_LINKS, Parish, Refusal};
+use parish::{Lot, MOST_LINKS, Parish, Refusal};
 
 // Over any bound: grows trees from the home lot along what the bound leaves of the links. A bisection within the cap must hit
 // some of them, and cuts a link of each that it hits: the number rises by the fewest that it can hit, and the charge of each
@@ -45,6 +42,7 @@ impl<B: LowerBound> LowerBound for Packing<B> {
 }
 
 // Consults the bound below, and adds what the trees add to what it answers.
+// Each layer has such a function: what is assumed of the charges below is a `requires`, and no public function has one.
 fn consult_over<B: LowerBound>(
     below: &B,
     home: Lot,
@@ -60,17 +58,27 @@ fn consult_over<B: LowerBound>(
     Ok(number + more)
 }
 
-// Grows the forest of a question, and answers what is added to the number, where a lot weighs at least so much.
-fn pack(question: &Question, trees: &mut Trees, least: u32) -> u32
-    requires { Sized (ground_of question.now) trees.old }
-    ensures number { result ≡ packed_number (ground_of question.now) least }
-    ensures charges { trees.new.taken.now ≡ packed_charges (ground_of question.now) }
+// What packing adds to the number, and to the charge of each link.
+#[derive(Drop)]
+struct Packed {
+    number: u32,
+    charges: [u32; MOST_LINKS],
+}
+
+// Grows the forest of a question, and counts the trees that a bisection must hit, where a lot weighs at least so much.
+fn pack(question: &Question, least: u32) -> Packed
+    ensures number { result.number ≡ packed_number (ground_of question.now) least }
+    ensures charges { take (ground_of question.now).links result.charges ≡ packed_charges (ground_of question.now) }
 {
-    clear(trees);
-    let roots = plant(question, trees);
-    grow(question, trees);
-    let goal = target(question, trees.tree, least);
-    fewest(trees.weights, roots, goal)
+    let mut growth = Growth::new(question);
+    let roots = growth.plant();
+    growth.grow();
+    let goal = growth.target(least);
+    let number = fewest(&mut growth.trees[..question.households.len()], roots, goal);
+    Packed {
+        number,
+        charges: growth.taken,
+    }
 }
 
 // Adds each extra charge to the charge in its place.
@@ -79,6 +87,7 @@ fn add_taken(charges: &mut [u32], taken: &[u32])
     requires small { (k : ℕ) → slice_index charges.old k + slice_index taken.now k ≤ strongest_held }
     ensures { charges.new ≡ added charges.old taken.now }
 {
+    // By index: of what is written through `iter_mut` a proof knows nothing afterwards.
     for (link, extra) in taken.iter().enumerate() {
         charges[link] += *extra;
     }
@@ -98,16 +107,6 @@ fn add_packing<'a>(
     ensures number { result ≡ packed_number (ground_for home (view parish.now) lots.now charges.old) (least_lot_weight (view parish.now) «cap») }
     ensures charges { charges.new ≡ added charges.old (packed_charges (ground_for home (view parish.now) lots.now charges.old)) }
 {
-    let mut tree_scratch = [0; MOST_HOUSEHOLDS];
-    let mut weight_scratch = [0; MOST_HOUSEHOLDS];
-    let mut live_scratch = [false; MOST_HOUSEHOLDS];
-    let mut taken_scratch = [0; MOST_LINKS];
-    let mut trees = Trees {
-        tree: &mut tree_scratch[0..lots.len()],
-        taken: &mut taken_scratch[0..charges.len()],
-        weights: &mut weight_scratch[0..lots.len()],
-        live: &mut live_scratch[0..lots.len()],
-    };
     let question = Question {
         households: parish.households(),
         links: parish.links(),
@@ -116,7 +115,7 @@ fn add_packing<'a>(
         home,
     };
     let least = parish.total_weight().saturating_sub(cap);
-    let more = pack(&question, &mut trees, least);
-    add_taken(charges, trees.taken);
-    more
+    let packed = pack(&question, least);
+    add_taken(charges, &packed.charges[..charges.len()]);
+    packed.number
 }

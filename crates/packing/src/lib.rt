@@ -3,9 +3,9 @@
 
 mod counting;
 mod growing;
+mod growth;
 pub mod layer;
 mod planting;
 mod question;
-mod trees;
 
 pub use layer::Packing;

@@ -1,4 +1,5 @@
-use Rattle.std.proofs.Common.{◌∙◌, length, sym, ap, ap₂, arith}
+use Rattle.std.proofs.Common.{◌∙◌, List, take, length, sym, ap, ap₂, arith}
+use Rattle.parish.specs.declared.items.Link.{Link}
 use Rattle.parish.specs.View.{view}
 use Rattle.parish.proofs.Viewed.{parish_sound}
 use Rattle.forest.specs.Grounds.{ground_for}
@@ -11,7 +12,8 @@ pub add_taken-requires-clause-same : goal.add_taken-requires-clause-same
 add_taken-requires-clause-same c =
     let p = c.args.parish.now in
     let taken =
-    c.pack-more.ensures.charges
+    ap (λ n. take n c.pack-packed.result.charges) (c.requires.charges_fit ∙ sym (ap (λ (ls : List Link). length ls) c.links.ensures))
+    ∙ c.pack-packed.ensures.charges
     ∙ ap₂ (λ hs ls. packed_charges (ground_for c.args.home (record { households = hs; links = ls }) c.args.lots.now c.args.charges.now))
     c.households.ensures c.links.ensures in
     let long = (forest_right (ground_fair c.args.home (view p) c.args.lots.now c.args.charges.now (parish_sound p))).links_long in
@@ -20,7 +22,7 @@ add_taken-requires-clause-same c =
 pub returns-clause-number : goal.returns-clause-number
 returns-clause-number c =
     let p = c.args.parish.now in
-    c.pack-more.ensures.number
+    c.pack-packed.ensures.number
     ∙ ap₂ (λ hs ls. packed_number (ground_for c.args.home (record { households = hs; links = ls }) c.args.lots.now c.args.charges.now) c.saturating_sub-least.result)
     c.households.ensures c.links.ensures
     ∙ ap (packed_number (ground_for c.args.home (view c.args.parish.now) c.args.lots.now c.args.charges.now))

@@ -1,16 +1,8 @@
-use Rattle.std.proofs.Common.{◌+◌, ◌≤◌, ◌≢◌, get_or, arith, get_or-set_other, rules}
-use Rattle.parish.specs.Limits.{strongest_held}
+use Rattle.std.proofs.Common.{◌≢◌, get_or, arith, get_or-set_other, rules}
 use Rattle.bounds.specs.Adding.{added}
 use Rattle.bounds.proofs.Filling.{fill_step, filled}
 use Rattle.bounds.proofs.Adding.{get_or_added, length_added}
 use Rattle.packing.proofs.layer.add_taken.Goals as goal
-
-pub overflow_add-charges : goal.overflow_add-charges
-overflow_add-charges c =
-    let k = c.loop-link.link in
-    let fits : get_or c.loop-link.charges c.loop-link.link 0 + get_or c.args.taken.now c.loop-link.link 0 ≤ strongest_held =
-    omega (arith, c.loop-link.invariant.1 k (omega arith), c.requires.small k) in
-    search rules
 
 pub loop-link-preserved : goal.loop-link-preserved
 loop-link-preserved c =
