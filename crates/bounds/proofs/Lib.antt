@@ -1,6 +1,5 @@
 pub mod Sums
 pub mod Adding
-pub mod Filling
 pub mod Indexed
 pub mod Left
 pub mod Over

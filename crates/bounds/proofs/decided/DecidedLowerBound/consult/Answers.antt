@@ -24,7 +24,7 @@ loop-k-preserved c =
     let e = c.charge_of-charge.ensures in
     let s = small c in (
       rw (e ∙ sym (get_or-map f ls k no_link 0 c.loop-k-test.true))
-      (fill_by_more (λ j. get_or (map f ls) j 0) c.loop-k.charges k 0 (search rules) c.loop-k.invariant.0),
+          (fill_by_more (λ j. get_or (map f ls) j 0) c.loop-k.charges k 0 (search rules) c.loop-k.invariant.0),
       omega (arith, c.loop-k.invariant.1, e, sum_by_more f ls k no_link c.loop-k-test.true),
       omega (arith, c.loop-k.invariant.2, s),
     )
