@@ -13,12 +13,17 @@ use parish::Link;
 fn lightest(trees: &[Tree]) -> Option<usize>
     ensures { Lightest trees.now (length trees.now) result }
 {
-    trees
-        .iter()
-        .enumerate()
-        .min_by_key(|(root, tree)| (!tree.live, tree.weight, *root))
-        .filter(|(_, tree)| tree.live)
-        .map(|(root, _)| root)
+    // A loop: by `min_by_key` growing takes up to a fifth longer.
+    let mut best = None;
+    for (root, tree) in trees.iter().enumerate() {
+        if tree.live {
+            match best {
+                Some(other) if trees[other].weight <= tree.weight => {}
+                _ => best = Some(root),
+            }
+        }
+    }
+    best
 }
 
 impl Growth<'_> {
