@@ -52,7 +52,7 @@ pub(crate) fn fewest(trees: &mut [Tree], all: u32, goal: u32) -> u32
     let mut left = goal;
     let mut count = 0;
 
-    // Each turn uses up the heaviest tree that is left.
+    // Counted by hand, since each turn uses up the heaviest tree that is left.
     while left > 0 {
         let Some(root) = heaviest(trees) else {
             return all;

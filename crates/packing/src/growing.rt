@@ -26,6 +26,7 @@ fn lightest(trees: &[Tree]) -> Option<usize>
     best
 }
 
+// Households and links are named by number: each function here asks that its question has them.
 impl Growth<'_> {
     // Whether a household is in the tree with a root.
     fn is_inside(&self, household: usize, root: usize) -> bool

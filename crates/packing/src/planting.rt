@@ -7,6 +7,7 @@ ghost use Rattle.packing.specs.Stands.{held_weight, Joins, Plants, Sown};
 use super::growth::{Growth, Tree};
 use bisection::UNSET;
 
+// Households and links are named by number: each function here asks that its question has them.
 impl Growth<'_> {
     // A household joins a tree by a link, and the tree may grow on.
     pub(crate) fn join(&mut self, household: usize, root: usize, link: usize)

@@ -25,6 +25,7 @@ pub(crate) struct Question<'a> {
     ghost charges_long: { length charges.now ≡ length links.now },
 }
 
+// Links are named by number: each function here asks that the question has them.
 impl Question<'_> {
     ghost use Rattle.parish.specs.Lots.{lot_byte};
     ghost use Rattle.forest.specs.Grounds.{leads, other};
