@@ -97,7 +97,7 @@ impl Search<'_, '_> {
         self.marks[household] = Some(mark_from(depth, arc));
     }
 
-    // Takes each link in turn, by its number: what it leads to is reached, or sent to where it is set in B.
+    // Takes each link in turn, by the number that its arcs name: what it leads to is reached, or sent to where it is set in B.
     fn scan_level(&mut self, depth: usize) -> Scanned
         requires ready { IsReady self.old depth }
         requires shallow { depth ≤ length self.old.network.lots.now }

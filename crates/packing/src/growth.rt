@@ -5,7 +5,7 @@ ghost use Rattle.parish.specs.Limits.{most_households};
 use super::question::Question;
 use parish::{MOST_HOUSEHOLDS, MOST_LINKS};
 
-// The weight of a tree, and whether it may still grow.
+// The weight of a tree, and whether it may still grow. It keeps its weight when it may not.
 #[derive(Clone, Copy)]
 pub(crate) struct Tree {
     pub(crate) weight: u32,
