@@ -18,7 +18,7 @@ use Rattle.flows.proofs.Levels.{LeadsOn, arc_some, arc_leads, blank, way_by}
 use Rattle.flows.proofs.Scanning.{Scanning, scanning, next_ready, first_ready}
 use Rattle.flow.specs.declared.network.Network.{Network}
 use Rattle.flow.specs.declared.network.Search.{Search}
-use Rattle.flow.specs.Searching.{leads_on_in, arc_on_in, path_to, least_room_in, IsReady, IsOpen, Sends, Reaches, Scans, Searches}
+use Rattle.flow.specs.Searching.{leads_on_in, arc_on_in, path_to, least_room_in, IsReady, IsOpen, SendsAlong, Reaches, Scans, SearchesOnce}
 
 -- what a scan can send at most: twice what is left of every link
 abbrev pub most_sent : ℕ
@@ -128,7 +128,7 @@ module _ {s t : Search} {depth k : ℕ} {grew : Bool} {sent : ℕ} (h : Taking s
         ∙ ap (by_arc s.network.links.now s.network.lots.now s.network.left.now depth (scan_of grew sent t)) (found ∙ found_old) ∙ more
 
     pub scan_send : get_or s.network.lots.now (head s.network.links.now a) 0 ≡ 2 → {t' : Search} {d : ℕ} → d ≡ least_room_in t a
-        → Sends t t' d (path_to t a) → Taking s t' depth (k + 1) grew (sent + d)
+        → SendsAlong t t' d (path_to t a) → Taking s t' depth (k + 1) grew (sent + d)
     scan_send goal {t'} {d} amount q =
         let least : d ≡ least_room s.network.left.now t.room.now a (path_before s.network.links.now t.marks.now depth a) = amount ∙ least_is in
         record {
@@ -172,7 +172,7 @@ first_level s t n all same room marks =
           (first_ready t.network.links.now t.network.lots.now t.network.left.now t.network.fits.ends t.room.now);
     }
 
-pub no_level : {s t : Search} {n depth : ℕ} → Seeking s t n depth → n ≡ 0 → Searches s t 0
+pub no_level : {s t : Search} {n depth : ℕ} → Seeking s t n depth → n ≡ 0 → SearchesOnce s t 0
 no_level {t = t} {depth = depth} h none =
     let end = sym (ap (λ i. search_on t i depth) none) ∙ h.goes_on in
     record { network = h.network; sent = ap (λ (x : Scan). x.sent) end; room = ap (λ (x : Scan). x.room) end }
@@ -195,7 +195,7 @@ module _ {s t t' : Search} {n depth : ℕ} {grew : Bool} {sent : ℕ} (h : Seeki
       ]) q.scan
       ∙ sym (ap (λ i. search_on t i depth) e)
 
-  pub level_stops : (grew && (sent == 0)) ≡ false → Searches s t' sent
+  pub level_stops : (grew && (sent == 0)) ≡ false → SearchesOnce s t' sent
   level_stops stops =
       let end = by_going false stops ∙ h.goes_on in
       record { network = q.network ∙ h.network; sent = ap (λ (x : Scan). x.sent) end; room = ap (λ (x : Scan). x.room) end }

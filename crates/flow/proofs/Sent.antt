@@ -10,7 +10,7 @@ use Rattle.flows.proofs.Least.{ended_least}
 use Rattle.flows.proofs.Scanning.{by_levels_searches}
 use Rattle.flow.specs.declared.network.Network.{Network}
 use Rattle.flow.specs.declared.network.Search.{Search}
-use Rattle.flow.specs.Searching.{Searches, SendsAll}
+use Rattle.flow.specs.Searching.{SearchesOnce, SendsAll}
 
 -- the searches that follow one another
 abbrev pub seek_in : Network → Seek
@@ -35,7 +35,7 @@ first_round s unused =
       same = ap (rounds (seek_in s.network) (suc (sum s.network.left.now))) unused;
     }
 
-module _ {s t t' : Search} {value d : ℕ} (r : Round s t value) (q : Searches t t' d) where
+module _ {s t t' : Search} {value d : ℕ} (r : Round s t value) (q : SearchesOnce t t' d) where
   good : Sought s.network.links.now s.network.lots.now s.network.left.now (seek_in s.network)
   good = by_levels_searches s.network.links.now s.network.lots.now s.network.left.now s.network.fits.ends
 

@@ -9,7 +9,7 @@ use Rattle.flows.proofs.Levels.{path_more, Step, step_to}
 use Rattle.flows.proofs.Sending.{open_rest}
 use Rattle.flow.specs.declared.network.Network.{Network}
 use Rattle.flow.specs.declared.network.Search.{Search}
-use Rattle.flow.specs.Searching.{room_in, least_room_in, path_to, Sends}
+use Rattle.flow.specs.Searching.{room_in, least_room_in, path_to, SendsAlong}
 
 -- the path that an arc ends, if there is one
 abbrev pub path_by : Search → Option Arc → List Arc
@@ -88,7 +88,7 @@ module _ (s : Search) where
         measuring_from a next' now' whole q (ap (λ x. least (room_in s) x (path_by s (before s a))) r ∙ sym (ap (least (room_in s) sofar) (by_more next a is)) ∙ h.goes_on)
 
     module _ {t t' : Search} {d : ℕ} {whole : List ℕ} (h : Walking s t d next whole) where
-      module _ (sent : Sends t t' d (a ∷ [])) (q : next' ≡ before t' a) where
+      module _ (sent : SendsAlong t t' d (a ∷ [])) (q : next' ≡ before t' a) where
         pub next_is : next' ≡ before s a
         next_is = q ∙ ap₂ (λ (net : Network) (ms : List (Option Mark)). arc_to ms (tail net.links.now a)) (sent.network ∙ h.network) (sent.marks ∙ h.marks)
 

@@ -50,7 +50,7 @@ abbrev pub IsReady : Search → ℕ → Type 0
 IsReady s depth = Ready s.network.links.now s.network.lots.now s.network.left.now depth s.room.now s.marks.now
 
 -- an amount is sent along a path, and no more changes
-pub record Sends (s s' : Search) (d : ℕ) (p : List Arc) : Type 0 where
+pub record SendsAlong (s s' : Search) (d : ℕ) (p : List Arc) : Type 0 where
   pub network : s'.network ≡ s.network
   pub room : s'.room.now ≡ send_all d s.room.now p
   pub marks : s'.marks.now ≡ s.marks.now
@@ -68,7 +68,7 @@ pub record Scans (s s' : Search) (depth : ℕ) (grew : Bool) (sent : ℕ) : Type
       (scan_level s.network.links.now s.network.lots.now s.network.left.now depth s.room.now s.marks.now)
 
 -- all levels are, until something is sent or no household is reached
-pub record Searches (s s' : Search) (amount : ℕ) : Type 0 where
+pub record SearchesOnce (s s' : Search) (amount : ℕ) : Type 0 where
   pub network : s'.network ≡ s.network
   pub sent : amount ≡ (searched s.network.links.now s.network.lots.now s.network.left.now s.room.now).sent
   pub room : s'.room.now ≡ (searched s.network.links.now s.network.lots.now s.network.left.now s.room.now).room

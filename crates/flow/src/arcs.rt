@@ -2,7 +2,7 @@
 // so that each function here asks that the network has that link.
 ghost use Rattle.std.specs.Prelude.{◌≡◌, ◌<◌, ◌≤◌, [], ◌∷◌, length};
 ghost use Rattle.flows.specs.Paths.{tail as tail_of, head as head_of};
-ghost use Rattle.flow.specs.Searching.{room_in, Sends};
+ghost use Rattle.flow.specs.Searching.{room_in, SendsAlong};
 
 use super::network::{Network, Search};
 use flows::Arc;
@@ -45,7 +45,7 @@ impl Search<'_, '_> {
     pub(crate) fn send_along(&mut self, arc: Arc, amount: u32)
         requires there { arc.link < length self.old.network.links.now }
         requires enough { amount ≤ room_in self.old arc }
-        ensures { Sends self.old self.new amount (arc ∷ []) }
+        ensures { SendsAlong self.old self.new amount (arc ∷ []) }
     {
         if arc.onward {
             self.room[arc.link] -= amount;

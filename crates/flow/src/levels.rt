@@ -2,7 +2,7 @@
 ghost use Rattle.std.specs.Prelude.{◌≡◌, ◌+◌, ◌<◌, ◌≤◌, ◌&&◌, ◌==◌, true, Some, length};
 ghost use Rattle.parish.specs.Limits.{most_households};
 ghost use Rattle.flows.specs.Levels.{level_one};
-ghost use Rattle.flow.specs.Searching.{leads_on_in, arc_on_in, IsReady, Reaches, Scans, Searches};
+ghost use Rattle.flow.specs.Searching.{leads_on_in, arc_on_in, IsReady, Reaches, Scans, SearchesOnce};
 
 use super::network::Search;
 use bisection::{IN_A, IN_B};
@@ -121,7 +121,7 @@ impl Search<'_, '_> {
 
     // Scans level after level until something is sent or no household is reached, and answers how much was sent.
     pub(crate) fn search(&mut self) -> u32
-        ensures { Searches self.old self.new result }
+        ensures { SearchesOnce self.old self.new result }
     {
         let network = self.network;
         mark_first(network.lots, self.marks);

@@ -2,7 +2,7 @@
 ghost use Rattle.std.specs.Prelude.{◌≡◌, ◌<◌, min, length};
 ghost use Rattle.flows.specs.Paths.{tail};
 ghost use Rattle.flows.specs.Levels.{arc_to};
-ghost use Rattle.flow.specs.Searching.{room_in, least_room_in, path_to, IsOpen, Sends};
+ghost use Rattle.flow.specs.Searching.{room_in, least_room_in, path_to, IsOpen, SendsAlong};
 
 use super::network::Search;
 use flows::Arc;
@@ -42,7 +42,7 @@ impl Search<'_, '_> {
     // The same walk again: an iterator over the arcs would keep the search lent while it changes.
     fn send_back(&mut self, last: Arc, amount: u32)
         requires { IsOpen self.old amount (path_to self.old last) }
-        ensures { Sends self.old self.new amount (path_to self.old last) }
+        ensures { SendsAlong self.old self.new amount (path_to self.old last) }
     {
         let mut next = Some(last);
         while let Some(arc) = next {
@@ -55,7 +55,7 @@ impl Search<'_, '_> {
     pub(crate) fn send_most(&mut self, last: Arc) -> u32
         requires { IsOpen self.old (least_room_in self.old last) (path_to self.old last) }
         ensures amount { result ≡ least_room_in self.old last }
-        ensures after { Sends self.old self.new result (path_to self.old last) }
+        ensures after { SendsAlong self.old self.new result (path_to self.old last) }
     {
         let amount = self.least_room(last);
         self.send_back(last, amount);

@@ -42,7 +42,8 @@ impl<B: LowerBound> LowerBound for Packing<B> {
 }
 
 // Consults the bound below, and adds what the trees add to what it answers.
-// Each layer has such a function: what is assumed of the charges below is a `requires`, and no public function has one.
+// Each layer has such a function, and not `bounds` one for all: `add_packing` asks by a `requires` for the charges of a bound,
+// and no public function has one.
 fn consult_over<B: LowerBound>(
     below: &B,
     home: Lot,
