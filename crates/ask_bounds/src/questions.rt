@@ -55,7 +55,7 @@ fn lots_of(heap: Global, text: &str) -> anyhow::Result<Vec<u8>> {
 
 fn lot_of(digit: char) -> anyhow::Result<u8> {
     let lot = digit.to_digit(10).context("a lot is not a digit")?;
-    Ok(lot as u8)
+    Ok(u8::try_from(lot)?)
 }
 
 fn links_of(heap: Global, text: &str) -> anyhow::Result<Vec<Link>> {
@@ -70,8 +70,8 @@ fn link_of(heap: Global, text: &str) -> anyhow::Result<Link> {
         return Err(anyhow!("a link has not three numbers"));
     };
     Ok(Link {
-        from: *from as usize,
-        to: *to as usize,
+        from: usize::try_from(*from)?,
+        to: usize::try_from(*to)?,
         strength: *strength,
     })
 }

@@ -41,6 +41,7 @@ impl Drawn {
     {
         let product = self.0.wrapping_mul(6_364_136_223_846_793_005);
         self.0 = product.wrapping_add(1_442_695_040_888_963_407);
+        // The upper 31 bits, which fit.
         (self.0 >> 33) as usize % limit
     }
 
@@ -59,6 +60,7 @@ impl Drawn {
             } else {
                 other
             };
+            // By `as`: both are small, and std has no `From` between 32 bits and a `usize`.
             let strength = 1 + self.below(MOST_STRENGTH as usize);
             parish.add_link(from, to, strength as u32)?;
         }

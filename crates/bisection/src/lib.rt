@@ -8,5 +8,5 @@ pub mod lots;
 pub mod weights;
 
 pub use costs::cost;
-pub use lots::{IN_A, IN_B, UNSET, check_lots, lots_fit};
+pub use lots::{IN_A, IN_B, UNSET, lots_fit};
 pub use weights::{LotWeights, lot_weights};

@@ -27,7 +27,7 @@ fn bytes_allowed(lots: &[u8]) -> bool
 }
 
 // Refuses a list that does not fit.
-pub fn check_lots(parish: &Parish, lots: &[u8]) -> Result<(), Refusal>
+pub(crate) fn check_lots(parish: &Parish, lots: &[u8]) -> Result<(), Refusal>
     ensures { result ≡ answered (lots_table (view parish.now) lots.now) tt }
 {
     if lots_fit(parish, lots) {

@@ -12,7 +12,7 @@ pub trait LowerBound {
     ghost meaning: { Self → Meaning };
 
     // Refuses a list of a wrong length and a lot above 2, and then changes nothing.
-    // What is asked stands in parameters: a caller lends its parish and its two lists for the one call, and keeps no question.
+    // What is asked stands in parameters, as it is handed over: a parish, a cap, a list of lots, and a list of charges to fill.
     fn consult(
         &self,
         parish: &Parish,

@@ -26,7 +26,7 @@ pub fn least_cost<B: LowerBound>(
     )
 }
 
-// The same, with a place for each charge.
+// The same, with a place for each charge: that there is one is a `requires`, and no public function has one.
 fn least_cost_by<B: LowerBound>(
     bound: &B,
     parish: &Parish,

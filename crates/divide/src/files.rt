@@ -17,6 +17,7 @@ pub(crate) fn read_front(rt: &HostRuntime, heap: Global, name: &str) -> io::Resu
         Err(error) if error.kind() == ErrorKind::NotFound => return Ok(Vec::new(heap)),
         opened => opened?,
     };
+    // Byte by byte, since `read_to_end` promises nothing of the length.
     BufReader::new(heap, file)?
         .bytes()
         .take(MOST_BYTES)

@@ -16,6 +16,7 @@ fn main(rt: HostRuntime) -> anyhow::Result<()> {
     let mut spare = Parish::new(heap)?;
     let households = read_front(&rt, heap, "households.csv")?;
     let links = read_front(&rt, heap, "links.csv")?;
+    // A report writes into lent bytes: so many hold any that there is.
     let mut out = [0; 128];
     let length = report_sheets(&mut parish, &mut spare, &households, &links, &mut out)
         .ok()

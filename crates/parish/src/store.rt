@@ -1,6 +1,6 @@
 // The parish itself. It keeps its limits in its type, and has all its memory from the start. Clauses see it as two lists, by
-// `view` (specs/View); a `Model` in its place would hide these limits from every caller's proof. This file has the struct
-// alone, since a file of specs/ that names it cannot be imported here.
+// `view` (specs/View); std's trait `Model` in its place would hide these limits from every caller's proof. This file has the
+// struct alone, since a file of specs/ that names it cannot be imported at its head.
 ghost use Rattle.std.specs.Prelude.{◌≤◌, vec_len, vec_capacity};
 ghost use Rattle.parish.specs.Limits.{most_households, most_links, Weights, Joined};
 

@@ -35,6 +35,7 @@ impl Report for Summary {
             [
                 self.households,
                 self.links,
+                // By `as`, here and below: std has no `From` of 32 bits for a `usize`.
                 self.weight as usize,
                 self.cap as usize,
             ],

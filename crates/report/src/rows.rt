@@ -7,10 +7,10 @@ use arrayvec::ArrayString;
 use itoa::Buffer;
 use parish::Refusal;
 
-// The longest line of names.
+// The longest line of names. Clauses alone speak of it.
 const MOST_NAMES: usize = 28;
 
-// Room for a line of names, and four numbers of up to 20 digits, each with a byte after it.
+// Room, and more, for a line of names and four numbers of up to 20 digits, each with a byte after it.
 const ROOM: usize = 128;
 
 // The text of a report; `names` is its whole first line. Not by `write!`, which promises nothing of when it succeeds.

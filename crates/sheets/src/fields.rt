@@ -20,7 +20,8 @@ fn digits_after(first: u32, rest: &[u8]) -> Option<u32>
     Some(number)
 }
 
-// A number field: the lone 0, or a first digit 1 to 9 and at most six more.
+// A number field: the lone 0, or a first digit 1 to 9 and at most six more. Taken apart by its bytes, since `parse` takes a sign
+// and leading zeros too.
 pub(crate) fn number(field: &[u8]) -> Option<u32>
     ensures { result ≡ number_of field.now }
 {

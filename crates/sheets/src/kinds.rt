@@ -18,10 +18,11 @@ pub trait SheetKind {
 
     ghost kind: { Kind Self.Record };
 
+    // Which of the two sheets it is.
     fn sheet() -> Sheet
         ensures { result ≡ kind.sheet };
 
-    // `NAMES`, as the kind has it.
+    // `NAMES`, as the kind has it: a constant that is a reference has no value in generic code.
     fn names_line() -> &'static [u8]
         ensures { result.now ≡ kind.names };
 

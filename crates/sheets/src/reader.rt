@@ -4,7 +4,7 @@ ghost use Rattle.spelling.specs.Pieces.{pieces, Parted};
 
 use std::marker::Model;
 
-// Bytes, and how many of them have been read.
+// A sheet's own bytes, and how many of them have been read: parts are handed out of them, and none is copied.
 #[derive(Drop)]
 pub(crate) struct Reader<'a> {
     bytes: &'a [u8],

@@ -56,27 +56,20 @@ fn case_of(line: &str) -> Option<Case<'_>> {
 pub(super) fn bytes_of(heap: Global, text: &str, worked: &[u8]) -> Result<Vec<u8>, AllocError> {
     let mut bytes = Vec::new(heap);
     for byte in text.bytes() {
-        put(&mut bytes, byte, worked)?;
+        put(heap, &mut bytes, byte, worked)?;
     }
     Ok(bytes)
 }
 
-fn put(bytes: &mut Vec<u8>, byte: u8, worked: &[u8]) -> Result<(), AllocError> {
+fn put(heap: Global, bytes: &mut Vec<u8>, byte: u8, worked: &[u8]) -> Result<(), AllocError> {
     match byte {
-        b'$' => repeat(bytes, 1, b"\n"),
-        b'^' => repeat(bytes, 1, b"\r"),
-        b'#' => repeat(bytes, 1, b"\x00"),
-        b'*' => repeat(bytes, 1, b"\xff"),
-        b'=' => repeat(bytes, 1, worked),
-        b'%' => repeat(bytes, 127, b"10000,B\n"),
-        b'&' => repeat(bytes, 1023, b"0,127,1000\n"),
-        _ => repeat(bytes, 1, &[byte]),
+        b'$' => bytes.extend_from_slice(b"\n"),
+        b'^' => bytes.extend_from_slice(b"\r"),
+        b'#' => bytes.extend_from_slice(b"\x00"),
+        b'*' => bytes.extend_from_slice(b"\xff"),
+        b'=' => bytes.extend_from_slice(worked),
+        b'%' => bytes.extend_from_slice(&b"10000,B\n".repeat(heap, 127)?),
+        b'&' => bytes.extend_from_slice(&b"0,127,1000\n".repeat(heap, 1023)?),
+        _ => bytes.extend_from_slice(&[byte]),
     }
-}
-
-fn repeat(bytes: &mut Vec<u8>, count: usize, part: &[u8]) -> Result<(), AllocError> {
-    for _ in 0..count {
-        bytes.extend_from_slice(part)?;
-    }
-    Ok(())
 }

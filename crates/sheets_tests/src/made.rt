@@ -17,6 +17,7 @@ pub(super) fn made_fault(
     [number, sheet, line, field]: [usize; 4],
 ) -> Option<LoadFault> {
     let refusal = refusal_of(number);
+    // By hand, as the refusal is.
     let sheet = if sheet == 1 {
         Sheet::Households
     } else {

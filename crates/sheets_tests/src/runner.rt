@@ -95,6 +95,7 @@ impl<'a, R: Abort> Runner<'a, R> {
     fn check_told(&self, case: Case<'_>, fault: LoadFault) {
         let line = case.line;
         let told = [
+            // By `as`, here and below: std has no `From` of 32 bits for a `usize`.
             u32::from(fault.refusal()) as usize,
             fault.sheet() as usize,
             fault.line(),

@@ -57,6 +57,7 @@ fn link_by(place: Place, from: &[u8], to: &[u8], strength: &[u8]) -> Result<Link
     let from = number(from).ok_or(FieldFault { place, field: 1 })?;
     let to = number(to).ok_or(FieldFault { place, field: 2 })?;
     let strength = number(strength).ok_or(FieldFault { place, field: 3 })?;
+    // By `as`: std has no `From` of 32 bits for a `usize`.
     Ok(Link {
         from: from as usize,
         to: to as usize,
