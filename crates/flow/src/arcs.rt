@@ -1,5 +1,5 @@
-// Arcs: a link gone one way or the other, with the room that way. An arc names its link by number, of whatever network it is,
-// so that each function here asks that the network has that link.
+// Arcs: a link gone one way or the other, with the room that way. An arc names its link by number, of whatever network it is:
+// a type that bounds the number would have to name the network, so each function here, in levels and in paths asks for it.
 ghost use Rattle.std.specs.Prelude.{◌≡◌, ◌<◌, ◌≤◌, [], ◌∷◌, length};
 ghost use Rattle.flows.specs.Paths.{tail as tail_of, head as head_of};
 ghost use Rattle.flow.specs.Searching.{room_in, SendsAlong};

@@ -15,7 +15,7 @@ use super::network::{Network, Search};
 use parish::{Link, MOST_HOUSEHOLDS, MOST_LINKS, Parish};
 
 // Fills left with what charges leave of each link.
-// A place in each list, since nothing is known of what a `zip` with `iter_mut` writes.
+// Written by index, and so read by it: of what is written through a zipped `iter_mut` the prover knows nothing.
 fn fill_left(links: &[Link], charges: &[u32], left: &mut [u32])
     requires charges_fit { length charges.now ≡ length links.now }
     requires left_fit { length left.old ≡ length links.now }
@@ -36,7 +36,7 @@ fn amount_on(left: u32, room: u32) -> u32
 
 impl Search<'_, '_> {
     // Adds to each charge the amount of flow on its link.
-    // A place in each list, since nothing is known of what a `zip` with `iter_mut` writes.
+    // Written by index, as above. One for this and its like in packing would be public, and ask by a `requires` for room.
     fn add_amounts(&self, charges: &mut [u32])
         requires fit { length charges.old ≡ length self.now.network.links.now }
         requires small { (k : ℕ) → slice_index charges.old k + slice_index (amounts_in self.now) k ≤ strongest_held }

@@ -25,7 +25,7 @@ impl Scanned {
 }
 
 // At first the households of A are reached.
-// A place in each list, since nothing is known of what a `zip` with `iter_mut` writes.
+// Written by index: of what is written through a zipped `iter_mut` the prover knows nothing.
 fn mark_first(lots: &[u8], marks: &mut [Option<Mark>])
     requires { length marks.old ≡ length lots.now }
     ensures { marks.new ≡ level_one lots.now }

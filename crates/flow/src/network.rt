@@ -1,5 +1,5 @@
 // What a search reads, and what it changes. This file has the structs alone, since a file of specs/ that names them cannot be
-// imported here.
+// imported at its head.
 ghost use Rattle.std.specs.Prelude.{length};
 ghost use Rattle.std.proofs.Props.{props};
 ghost use Rattle.flows.specs.Rounds.{Roomed};
@@ -18,7 +18,8 @@ pub(crate) struct Network<'a> {
 }
 
 // A search of a network, in lent scratch: the room of each link so far, and how each household was reached.
-// Two lists of numbers, what is left and the room: the form in which the laws and the charges speak of links.
+// Two lists of numbers, what is left and the room: the form in which the laws and the charges speak of links. That marks have
+// at most one proof of being a tree is shown by `Prim.hlevel`.
 #[derive(Drop)]
 pub(crate) struct Search<'n, 'a> {
     pub(crate) network: Network<'n>,

@@ -39,7 +39,7 @@ impl Search<'_, '_> {
     }
 
     // Sends an amount along the path that an arc ends.
-    // The same walk again: an iterator over the arcs would keep the search lent while it changes.
+    // The same walk again, of three lines: an iterator for both would be a type with a contract and a proof of its own.
     fn send_back(&mut self, last: Arc, amount: u32)
         requires { IsOpen self.old amount (path_to self.old last) }
         ensures { SendsAlong self.old self.new amount (path_to self.old last) }

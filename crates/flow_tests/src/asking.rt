@@ -30,6 +30,7 @@ pub(super) fn tells<B: LowerBound>(
     number: u32,
     charges: &[u32],
 ) -> Result<(), Fail> {
+    // Cut out of the most that there can be, as a caller of a bound would.
     assert!(rt; charges.len() <= MOST_LINKS);
     for (cap, case) in [(0, "at cap 0"), (u32::MAX, "at the largest cap")] {
         let mut scratch = [9; MOST_LINKS];
@@ -49,6 +50,7 @@ pub(super) fn refuses<B: LowerBound>(
     count: usize,
     case: &str,
 ) -> Result<(), Fail> {
+    // What lies past the list is looked at too.
     assert!(rt; count <= 8);
     let mut scratch = [9; 8];
     let told = &mut scratch[0..count];

@@ -1,7 +1,7 @@
 // What a search for paths works with.
 
 // A link, gone from its first end to its second, or back.
-// A flag says which way: with an enum for the two ways each test of it is a match, and says no more.
+// A flag says which way: an enum for the two ways would say no more where it is tested.
 #[derive(Clone, Copy)]
 pub struct Arc {
     pub link: usize,

@@ -45,17 +45,17 @@ fn heaviest(trees: &[Tree]) -> Option<usize>
 }
 
 // The fewest trees whose weights reach a goal, taken heaviest first; all where they do not suffice. The weights are used up.
-pub(crate) fn fewest(trees: &mut [Tree], all: u32, goal: u32) -> u32
+pub(crate) fn fewest(trees: &mut [Tree], roots: u32, goal: u32) -> u32
     requires { length trees.old ≤ most_households }
-    ensures { Counted (length trees.old) (held_weight trees.old) all goal result }
+    ensures { Counted (length trees.old) (held_weight trees.old) roots goal result }
 {
     let mut left = goal;
     let mut count = 0;
 
-    // Counted by hand, since each turn uses up the heaviest tree that is left.
+    // Each turn uses up the heaviest tree that is left: a sort of them first is no shorter, and its order would have to be proved.
     while left > 0 {
         let Some(root) = heaviest(trees) else {
-            return all;
+            return roots;
         };
         left = left.saturating_sub(trees[root].weight);
         trees[root].weight = 0;

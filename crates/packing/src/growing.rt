@@ -5,7 +5,7 @@ ghost use Rattle.packing.specs.Grounded.{ground_of};
 ghost use Rattle.packing.specs.Stands.{forest_of, Sown, Whole};
 ghost use Rattle.packing.specs.Growing.{Lightest, Far};
 
-use super::growth::{Growth, Tree};
+use super::growth::{Growth, Tree, tree_byte};
 use bisection::UNSET;
 use parish::Link;
 
@@ -13,7 +13,8 @@ use parish::Link;
 fn lightest(trees: &[Tree]) -> Option<usize>
     ensures { Lightest trees.now (length trees.now) result }
 {
-    // A loop: with `min_by_key` packing runs a fifth more instructions.
+    // A loop: of `min_by_key` only the form with liveness, weight and root in its key proves by itself, and packing then runs a
+    // fifth more instructions.
     let mut best = None;
     for (root, tree) in trees.iter().enumerate() {
         if tree.live {
@@ -26,7 +27,6 @@ fn lightest(trees: &[Tree]) -> Option<usize>
     best
 }
 
-// Households and links are named by number: each function here asks that its question has them.
 impl Growth<'_> {
     // Whether a household is in the tree with a root.
     fn is_inside(&self, household: usize, root: usize) -> bool
@@ -34,7 +34,7 @@ impl Growth<'_> {
         requires root { root < (ground_of self.now.question).households }
         ensures { result ≡ inside (forest_of self.now) root household }
     {
-        self.tree_of[household] == (root + 1) as u8
+        self.tree_of[household] == tree_byte(root)
     }
 
     // Whether a household is unset and outside all trees.

@@ -1,5 +1,5 @@
 // The trees of a question as they grow.
-ghost use Rattle.std.specs.Prelude.{◌≡◌, length};
+ghost use Rattle.std.specs.Prelude.{◌≡◌, ◌+◌, ◌<◌, length};
 ghost use Rattle.parish.specs.Limits.{most_households};
 
 use super::question::Question;
@@ -12,13 +12,21 @@ pub(crate) struct Tree {
     pub(crate) live: bool,
 }
 
+// The byte that names the tree with a root.
+pub(crate) fn tree_byte(root: usize) -> u8
+    requires { root < most_households }
+    ensures { result ≡ root + 1 }
+{
+    (root + 1) as u8
+}
+
 // A question and its trees, each named by its root. In arrays of the most that there can be: a step allocates nothing.
 #[derive(Drop)]
 pub(crate) struct Growth<'a> {
     pub(crate) question: Question<'a>,
 
     // For each household one more than the root of its tree, or 0 where it is in none. Bytes: growing compares them at each
-    // link, and with options takes twice as long.
+    // link, and with `Option<usize>` takes twice as long.
     pub(crate) tree_of: [u8; MOST_HOUSEHOLDS],
 
     // 1 for each root link and tree link, else 0. Numbers, since they are added to the charges.
@@ -27,6 +35,7 @@ pub(crate) struct Growth<'a> {
     // The tree with each household as its root, which weighs 0 where the household is no root.
     pub(crate) trees: [Tree; MOST_HOUSEHOLDS],
 
+    // A clause sees an array as a list.
     ghost long: { length trees ≡ most_households },
 }
 

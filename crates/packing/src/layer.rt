@@ -59,7 +59,7 @@ fn consult_over<B: LowerBound>(
     Ok(number + more)
 }
 
-// What packing adds to the number, and to the charge of each link.
+// What packing adds to the number, and to the charge of each link, in an array as `Growth` has it.
 #[derive(Drop)]
 struct Packed {
     number: u32,
@@ -82,13 +82,14 @@ fn pack(question: &Question, least: u32) -> Packed
     }
 }
 
-// Adds each extra charge to the charge in its place.
+// Adds each extra charge to the charge in its place. One for this and its like in flow would be public, and ask by a `requires`
+// for room.
 fn add_taken(charges: &mut [u32], taken: &[u32])
     requires same { length charges.old ≡ length taken.now }
     requires small { (k : ℕ) → slice_index charges.old k + slice_index taken.now k ≤ strongest_held }
     ensures { charges.new ≡ added charges.old taken.now }
 {
-    // By index: of what is written through `iter_mut` a proof knows nothing afterwards.
+    // Written by index: of what is written through a zipped `iter_mut` the prover knows nothing.
     for (link, extra) in taken.iter().enumerate() {
         charges[link] += *extra;
     }

@@ -4,10 +4,11 @@ ghost use Rattle.parish.specs.Limits.{most_households, heaviest_held};
 ghost use Rattle.packing.specs.Grounded.{ground_of};
 ghost use Rattle.packing.specs.Stands.{held_weight, Joins, Plants, Sown};
 
-use super::growth::{Growth, Tree};
+use super::growth::{Growth, Tree, tree_byte};
 use bisection::UNSET;
 
-// Households and links are named by number: each function here asks that its question has them.
+// Households and links are named by number. A type that bounds the number would have to name the question, so each function
+// here, in growing and in counting asks for it.
 impl Growth<'_> {
     // A household joins a tree by a link, and the tree may grow on.
     pub(crate) fn join(&mut self, household: usize, root: usize, link: usize)
@@ -17,7 +18,7 @@ impl Growth<'_> {
         requires light { held_weight self.old.trees root ≤ most_households * heaviest_held }
         ensures { Joins household root link self.old self.new }
     {
-        self.tree_of[household] = (root + 1) as u8;
+        self.tree_of[household] = tree_byte(root);
         self.taken[link] = 1;
         self.trees[root] = Tree {
             weight: self.trees[root].weight + self.question.households[household].weight,
@@ -49,7 +50,7 @@ impl Growth<'_> {
     {
         let mut roots = 0;
 
-        // By number, since each turn may change the trees.
+        // A loop, since each turn may change the trees: what a `sum` over such turns leaves would want a proof of its own.
         for household in 0..self.question.households.len() {
             roots += u32::from(self.plant_at(household));
         }

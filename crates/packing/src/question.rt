@@ -25,7 +25,7 @@ pub(crate) struct Question<'a> {
     ghost charges_long: { length charges.now ≡ length links.now },
 }
 
-// Links are named by number: each function here asks that the question has them.
+// Links are named by number: a type that bounds the number would have to name the question.
 impl Question<'_> {
     ghost use Rattle.parish.specs.Lots.{lot_byte};
     ghost use Rattle.forest.specs.Grounds.{leads, other};
