@@ -6,7 +6,7 @@ ghost use Rattle.bisection.specs.Lots.{allowed, lots_fit, lots_table};
 
 use parish::{Lot, Parish, Refusal};
 
-// Bytes: the form in which lists of lots are handed over.
+// Bytes: the form in which lists of lots are handed over. By `as`, since a constant cannot call `from`.
 pub const UNSET: u8 = 0;
 
 pub const IN_A: u8 = Lot::A as u8;

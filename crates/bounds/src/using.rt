@@ -26,7 +26,8 @@ pub fn least_cost<B: LowerBound>(
     )
 }
 
-// The same, with a place for each charge: that there is one is a `requires`, and no public function has one.
+// The same, with a place for each charge. Apart from the scratch: in one function a wrong cap would be refused in a proof file
+// and not here.
 fn least_cost_by<B: LowerBound>(
     bound: &B,
     parish: &Parish,

@@ -49,6 +49,7 @@ impl Search<'_, '_> {
 }
 
 // Adds a greatest flow through what charges leave to them, and answers how much it is.
+// That there is a charge for each link is asked here and in the other layer, since the bound below has tested it.
 pub(crate) fn add_flow(parish: &Parish, lots: &[u8], charges: &mut [u32]) -> u32
     requires fit { Lots (view parish.now) lots.now }
     requires charges_fit { length charges.old ≡ length (view parish.now).links }

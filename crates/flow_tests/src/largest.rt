@@ -10,6 +10,7 @@ use std::test::Fail;
 fn chain(rt: HostRuntime) -> Result<(), Fail> {
     let mut parish = parish_of(rt.alloc(), MOST_HOUSEHOLDS, &[])?;
     for k in 0..127u32 {
+        // By `as`: std has no `From` of 32 bits for a `usize`.
         parish.add_link(k as usize, k as usize + 1, 10 + k.abs_diff(63))?;
     }
     let mut lots = [0; MOST_HOUSEHOLDS];

@@ -12,7 +12,8 @@ pub(crate) struct Tree {
     pub(crate) live: bool,
 }
 
-// The byte that names the tree with a root.
+// The byte that names the tree with a root. By `as`: the clause says that it fits, and `try_from` would have an error to answer
+// that never comes.
 pub(crate) fn tree_byte(root: usize) -> u8
     requires { root < most_households }
     ensures { result ≡ root + 1 }
@@ -32,7 +33,8 @@ pub(crate) struct Growth<'a> {
     // 1 for each root link and tree link, else 0. Numbers, since they are added to the charges.
     pub(crate) taken: [u32; MOST_LINKS],
 
-    // The tree with each household as its root, which weighs 0 where the household is no root.
+    // The tree with each household as its root. It weighs 0 where the household is no root, and is no Option: what weighs nothing
+    // is not counted, and what is not live does not grow.
     pub(crate) trees: [Tree; MOST_HOUSEHOLDS],
 
     // A clause sees an array as a list.

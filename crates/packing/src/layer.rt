@@ -96,6 +96,7 @@ fn add_taken(charges: &mut [u32], taken: &[u32])
 }
 
 // Adds what packing adds to each charge, and answers what it adds to the number.
+// That there is a charge for each link is asked here and in the other layer, since the bound below has tested it.
 fn add_packing<'a>(
     parish: &'a Parish,
     home: Lot,

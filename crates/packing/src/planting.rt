@@ -50,7 +50,7 @@ impl Growth<'_> {
     {
         let mut roots = 0;
 
-        // A loop, since each turn may change the trees: what a `sum` over such turns leaves would want a proof of its own.
+        // A loop, since each turn may change the trees: a chain that ends in `sum` would hide that.
         for household in 0..self.question.households.len() {
             roots += u32::from(self.plant_at(household));
         }

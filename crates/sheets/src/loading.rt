@@ -49,7 +49,8 @@ fn read_sheet<K: SheetKind>(bytes: &[u8], parish: &mut Parish) -> Result<(), Loa
 }
 
 // Reads both sheets into a parish that is emptied first.
-// The sheets are two slices, here and where they are handed over: each goes on alone to the reading of its kind.
+// The sheets are two slices, here and where they are handed over with a parish and its spare: each goes on alone to the reading
+// of its kind.
 fn read_both(parish: &mut Parish, households: &[u8], links: &[u8]) -> Result<(), LoadFault>
     ensures { Read (loaded households.now links.now) (view parish.new) result }
 {

@@ -76,18 +76,14 @@ impl<'a, R: Abort> Runner<'a, R> {
             weight: self.parish.total_weight(),
             cap,
         };
-        let mut out = [0; 80];
-        let length = summary.report(&mut out)?;
-        self.check_report(case, "households,links,weight,cap$=$", out.get(..length))?;
+        self.check_report(case, "households,links,weight,cap$=$", &summary)?;
         self.check_parish(case, households, links)
     }
 
     // What is told and reported of a fault, and that the parish is still the worked one.
     fn check_refused(&self, case: Case<'_>, fault: LoadFault, spot: &[u8]) -> Result<(), Fail> {
         self.check_told(case, fault);
-        let mut out = [0; 80];
-        let length = fault.report(&mut out)?;
-        self.check_report(case, "refused,sheet,line,field$=$", out.get(..length))?;
+        self.check_report(case, "refused,sheet,line,field$=$", &fault)?;
         self.check_spot(case, spot)?;
         self.check_parish(case, HOUSEHOLDS, LINKS)
     }
@@ -109,15 +105,16 @@ impl<'a, R: Abort> Runner<'a, R> {
         assert_eq!(self.rt; fault.layer(), layer_of(fault), "layer: {line}");
     }
 
-    fn check_report(
-        &self,
-        case: Case<'_>,
-        names: &str,
-        reported: Option<&[u8]>,
-    ) -> Result<(), Fail> {
+    fn check_report<T: Report>(&self, case: Case<'_>, names: &str, report: &R) -> Result<(), Fail> {
         let line = case.line;
+        // A report writes into lent bytes: so many hold any that there is.
+        let mut out = [0; 80];
+        let length = report.report(&mut out)?;
         let text = bytes_of(self.heap, names, case.told.as_bytes())?;
-        assert!(self.rt; reported == Some(text.as_slice()), "report: {line}");
+        assert!(self.rt;
+            out.get(..length) == Some(text.as_slice()),
+            "report: {line}"
+        );
         Ok(())
     }
 
@@ -144,7 +141,7 @@ impl<'a, R: Abort> Runner<'a, R> {
 fn layer_of(fault: LoadFault) -> Layer {
     match fault.refusal() {
         Refusal::WrongNames | Refusal::WrongCount => Layer::Line,
-        Refusal::WrongField if fault.sheet() > 0 => Layer::Field,
+        Refusal::WrongField if fault.place().is_some() => Layer::Field,
         _ => Layer::Parish,
     }
 }
