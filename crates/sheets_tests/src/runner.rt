@@ -105,7 +105,7 @@ impl<'a, R: Abort> Runner<'a, R> {
         assert_eq!(self.rt; fault.layer(), layer_of(fault), "layer: {line}");
     }
 
-    fn check_report<T: Report>(&self, case: Case<'_>, names: &str, report: &R) -> Result<(), Fail> {
+    fn check_report<T: Report>(&self, case: Case<'_>, names: &str, report: &T) -> Result<(), Fail> {
         let line = case.line;
         // A report writes into lent bytes: so many hold any that there is.
         let mut out = [0; 80];

@@ -1,11 +1,7 @@
 use Rattle.std.proofs.Common.{◌-◌, get_or, arith}
 use Rattle.std.proofs.lemmas.List.FromFn.{fill_by_all}
 use Rattle.bounds.specs.Left.{link_at}
-use Rattle.bounds.proofs.Left.{strength_at}
 use Rattle.flow.proofs.charges.fill_left.Goals as goal
-
-pub overflow_sub-left : goal.overflow_sub-left
-overflow_sub-left c = omega (arith, c.requires.within c.loop-k.k, strength_at c.args.links.now c.loop-k.k c.loop-k-test.true)
 
 pub returns : goal.returns
 returns c =

@@ -1,23 +1,11 @@
-use Rattle.std.proofs.Common.{◌+◌, ◌*◌, ◌≤◌, length, ap, ◌∙◌, rules}
+use Rattle.std.proofs.Common.{◌+◌, ◌*◌, ◌≤◌, rules}
 use Rattle.parish.specs.Limits.{most_links, strongest_held}
 use Rattle.parish.specs.View.{view}
 use Rattle.parish.proofs.Viewed.{parish_sound}
-use Rattle.bounds.proofs.Over.{answer_within, over_answers, over_fits}
+use Rattle.bounds.proofs.Over.{over_answers, over_fits}
 use Rattle.flows.specs.Layers.{flow_addition}
 use Rattle.flows.proofs.Theorems.{flow_adds}
 use Rattle.flow.proofs.layer.consult_over.Goals as goal
-
-pub add_flow-sent-requires : goal.add_flow-sent-requires
-add_flow-sent-requires g c =
-    let s = c.args.below.now in
-    let sound = parish_sound c.args.parish.now in
-    let a = c.in_ok-number.ensures in
-    let law = g.met.B.LowerBound.bounds s in
-    record {
-      fit = a.fit.lots_fit;
-      charges_fit = ap length a.fills ∙ (law _ c.args.cap c.args.lots.now sound a.fit.lots_fit).long;
-      within = answer_within (g.B.LowerBound.meaning s) law (view c.args.parish.now) _ _ _ _ _ sound a;
-    }
 
 pub overflow_add-result : goal.overflow_add-result
 overflow_add-result g c =
