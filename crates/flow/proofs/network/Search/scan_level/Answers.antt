@@ -1,5 +1,5 @@
 use Rattle.std.proofs.Common.{◌+◌, ◌≤◌, get_or, ap, ◌∙◌, sym, arith, rules}
-use Rattle.flow.proofs.Scanned.{most_sent, sent_fits, scan_leads, scan_open, scan_pass, scan_send, scan_reach}
+use Rattle.flow.proofs.Scanned.{most_sent, sent_fits, scan_open, scan_pass, scan_send, scan_reach}
 use Rattle.flow.proofs.network.Search.scan_level.Goals as goal
 use Rattle.flow.proofs.network.Search.scan_level.Goals.{in-Some+then-network-head-eq-IN_B, in-Some+else-network-head-eq-IN_B, in_default}
 
@@ -7,9 +7,6 @@ pub send_most-sent-requires : goal.send_most-sent-requires
 send_most-sent-requires c =
     scan_open c.loop-link.invariant c.requires.ready c.loop-link-test.true c.in-Some.ensures
     (ap (λ v. get_or c.args.self.now.network.lots.now v 0) (sym c.head.ensures) ∙ c.if-network-head-eq-IN_B.true)
-
-pub reach-requires-clause-leads : goal.reach-requires-clause-leads
-reach-requires-clause-leads c = scan_leads c.loop-link.invariant c.requires.ready c.loop-link-test.true c.in-Some.ensures
 
 pub overflow_add-sent : goal.overflow_add-sent
 overflow_add-sent c =
