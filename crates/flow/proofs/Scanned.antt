@@ -14,11 +14,11 @@ use Rattle.flows.specs.Trees.{IsNetwork, Ready}
 use Rattle.bounds.proofs.Indexed.{sum_below_le}
 use Rattle.flows.proofs.Sending.{crossing, residual}
 use Rattle.flows.proofs.Rounds.{group_A, group_A_parts, Moved, moved_sends}
-use Rattle.flows.proofs.Levels.{LeadsOn, arc_some, arc_leads, blank, way_by}
+use Rattle.flows.proofs.Levels.{LeadsOn, arc_some, blank, way_by}
 use Rattle.flows.proofs.Scanning.{Scanning, scanning, next_ready, first_ready}
 use Rattle.flow.specs.declared.network.Network.{Network}
 use Rattle.flow.specs.declared.network.Search.{Search}
-use Rattle.flow.specs.Searching.{leads_on_in, arc_on_in, path_to, least_room_in, IsReady, IsOpen, SendsAlong, Reaches, Scans, SearchesOnce}
+use Rattle.flow.specs.Searching.{arc_on_in, path_to, least_room_in, IsReady, IsOpen, SendsAlong, Reaches, Scans, SearchesOnce}
 
 -- what a scan can send at most: twice what is left of every link
 abbrev pub most_sent : ℕ
@@ -97,9 +97,6 @@ module _ {s t : Search} {depth k : ℕ} {grew : Bool} {sent : ℕ} (h : Taking s
 
     pub scan_there : a.link < length t.network.links.now
     scan_there = omega (arith, arc_is.0, ap (λ (net : Network). length net.links.now) h.network)
-
-    pub scan_leads : leads_on_in t depth a ≡ true
-    scan_leads = arc_leads t.network.links.now t.network.left.now t.room.now t.marks.now depth k a (sym found)
 
     -- where it leads to B, the path that it ends is open
     pub scan_open : get_or s.network.lots.now (head s.network.links.now a) 0 ≡ 2 → IsOpen t (least_room_in t a) (path_to t a)
