@@ -77,12 +77,6 @@ module _ (ls : List Link) (left room : List ℕ) (marks : List (Option Mark)) (d
       by_tests (leads_on ls left room marks depth (way k true)) (leads_on ls left room marks depth (way k false)) (way k true) (way k false) a e
       (λ b. (b.link ≡ k) × LeadsOn ls left room marks depth b) (λ q. (refl, on_true (way k true) q)) (λ q. (refl, on_true (way k false) q))
 
-  -- and it leads on
-  pub arc_leads : (k : ℕ) (a : Arc) → arc_on ls left room marks depth k ≡ Some a → leads_on ls left room marks depth a ≡ true
-  arc_leads k a e =
-      by_tests (leads_on ls left room marks depth (way k true)) (leads_on ls left room marks depth (way k false)) (way k true) (way k false) a e
-      (λ b. leads_on ls left room marks depth b ≡ true) (λ q. q) (λ q. q)
-
   module _ (deep : 1 ≤ depth) (ranked : (v : ℕ) (m : Mark) → mark_of marks v ≡ Some m → 1 ≤ m.level) where
     pub arc_none : (k : ℕ) → arc_on ls left room marks depth k ≡ None → (o : Bool) → Covered ls left room marks depth (record { link = k; onward = o })
     arc_none k e o =
