@@ -1,6 +1,6 @@
 use Rattle.std.proofs.Common.{◌+◌, ◌-◌, length, sym, refl, ◌∙◌, arith}
 use Rattle.flow.proofs.Marks.{first_tree}
-use Rattle.flow.proofs.Scanned.{first_level, no_level, level_stops, level_goes}
+use Rattle.flow.proofs.Scanned.{first_level, level_stops, level_goes}
 use Rattle.flow.proofs.network.Search.search.Goals as goal
 
 pub invariant_of-self-clause-tree : goal.invariant_of-self-clause-tree
@@ -18,7 +18,3 @@ pub loop-depth-preserved : goal.loop-depth-preserved
 loop-depth-preserved c =
     level_goes c.loop-depth.invariant c.scan_level-level.ensures (length c.args.self.now.network.lots.now + 1 - (c.loop-depth.depth + 1)) (omega arith)
     (sym c.goes_on.ensures ∙ c.if-not-goes_on.false)
-
-pub returns-else-not-goes_on : goal.returns-else-not-goes_on
-returns-else-not-goes_on c =
-    no_level (level_goes c.loop-depth.invariant c.scan_level-level.ensures 0 (omega arith) (sym c.goes_on.ensures ∙ c.if-not-goes_on.false)) refl
