@@ -11,6 +11,7 @@ ghost use Rattle.flows.specs.Paths.{distance};
 ghost use Rattle.flows.specs.Levels.{flow_charges};
 ghost use Rattle.flow.specs.Searching.{amounts_in};
 
+use super::marked::Marked;
 use super::network::{Network, Search};
 use parish::{Link, MOST_HOUSEHOLDS, MOST_LINKS, Parish};
 
@@ -50,7 +51,7 @@ impl Search<'_, '_> {
 
 // Adds a greatest flow through what charges leave to them, and answers how much it is.
 // That there is a charge for each link is asked here and in the other layer, since the bound below has tested it.
-pub(crate) fn add_flow(parish: &Parish, lots: &[u8], charges: &mut [u32]) -> u32
+pub(crate) fn add_flow<'a>(parish: &'a Parish, lots: &'a [u8], charges: &mut [u32]) -> u32
     requires fit { Lots (view parish.now) lots.now }
     requires charges_fit { length charges.old ≡ length (view parish.now).links }
     requires within { (k : ℕ) → slice_index charges.old k ≤ slice_index (strengths (view parish.now).links) k }
@@ -60,9 +61,10 @@ pub(crate) fn add_flow(parish: &Parish, lots: &[u8], charges: &mut [u32]) -> u32
     // Scratch on the stack, cut to the parish: a bound allocates nothing.
     let mut left_scratch = [0; MOST_LINKS];
     let mut room_scratch = [0; MOST_LINKS];
-    let mut mark_scratch = [None; MOST_HOUSEHOLDS];
+    let mut mark_scratch = [Marked::none(); MOST_HOUSEHOLDS];
     let left = &mut left_scratch[0..charges.len()];
     let room = &mut room_scratch[0..charges.len()];
+    let marks = &mut mark_scratch[..];
     fill_left(parish.links(), charges, left);
     room.copy_from_slice(left);
     let network = Network {
@@ -73,7 +75,7 @@ pub(crate) fn add_flow(parish: &Parish, lots: &[u8], charges: &mut [u32]) -> u32
     let mut search = Search {
         network,
         room,
-        marks: &mut mark_scratch[0..lots.len()],
+        marks: &mut marks[..lots.len()],
     };
     let sent = search.send_all();
     search.add_amounts(charges);

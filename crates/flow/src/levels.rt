@@ -4,6 +4,7 @@ ghost use Rattle.parish.specs.Limits.{most_households};
 ghost use Rattle.flows.specs.Levels.{level_one};
 ghost use Rattle.flow.specs.Searching.{leads_on_in, arc_on_in, IsReady, Reaches, Scans, SearchesOnce};
 
+use super::marked::Marked;
 use super::network::Search;
 use bisection::{IN_A, IN_B};
 use flows::{Arc, Mark};
@@ -26,16 +27,19 @@ impl Scanned {
 
 // At first the households of A are reached.
 // Written by index: of what is written through a zipped `iter_mut` the prover knows nothing.
-fn mark_first(lots: &[u8], marks: &mut [Option<Mark>])
+fn mark_first(lots: &[u8], marks: &mut [Marked])
     requires { length marks.old ≡ length lots.now }
     ensures { marks.new ≡ level_one lots.now }
 {
     for (household, lot) in lots.iter().enumerate() {
-        let mark = Mark {
-            level: 1,
-            arc: None,
+        marks[household] = if *lot == IN_A {
+            Marked::new(Mark {
+                level: 1,
+                arc: None,
+            })
+        } else {
+            Marked::none()
         };
-        marks[household] = (*lot == IN_A).then_some(mark);
     }
 }
 
@@ -53,21 +57,20 @@ fn mark_from(depth: usize, arc: Arc) -> Mark
 impl Search<'_, '_> {
     // Whether an arc leads, with room, from a household of a level to one not reached.
     fn leads_on(&self, depth: usize, arc: Arc) -> bool
-        requires { arc.link < length self.now.network.links.now }
+        requires there { arc.link < length self.now.network.links.now }
+        requires deep { 1 ≤ depth }
         ensures { result ≡ leads_on_in self.now depth arc }
     {
-        // Marks are read where they are, and that of the head first: copies, or the other order, take a fifth to a half longer.
-        let marks = &*self.marks;
-        let from = &marks[self.network.tail(arc)];
-        let to = &marks[self.network.head(arc)];
-        to.is_none()
-            && matches!(from, Some(mark) if mark.level == depth)
+        // The level first: at most links that test fails, which a processor foresees.
+        self.marks[self.network.tail(arc)].is_at(depth)
+            && self.marks[self.network.head(arc)].is_none()
             && self.room_along(arc) > 0
     }
 
     // The arc by which a link does so, if one does.
     fn arc_on(&self, depth: usize, link: usize) -> Option<Arc>
-        requires { link < length self.now.network.links.now }
+        requires there { link < length self.now.network.links.now }
+        requires deep { 1 ≤ depth }
         ensures { result ≡ arc_on_in self.now depth link }
     {
         let onward = Arc { link, onward: true };
@@ -94,7 +97,7 @@ impl Search<'_, '_> {
     {
         let network = self.network;
         let household = network.head(arc);
-        self.marks[household] = Some(mark_from(depth, arc));
+        self.marks[household] = Marked::new(mark_from(depth, arc));
     }
 
     // Takes each link in turn, by the number that its arcs name: what it leads to is reached, or sent to where it is set in B.

@@ -5,6 +5,7 @@ mod arcs;
 mod charges;
 pub mod layer;
 mod levels;
+mod marked;
 mod network;
 mod paths;
 mod rounds;

@@ -5,7 +5,7 @@ ghost use Rattle.std.proofs.Props.{props};
 ghost use Rattle.flows.specs.Rounds.{Roomed};
 ghost use Rattle.flows.specs.Trees.{IsNetwork, Tree};
 
-use flows::Mark;
+use super::marked::Marked;
 use parish::Link;
 
 // The links of a parish, a lot or none for each household, and how much charges leave of each link.
@@ -24,7 +24,7 @@ pub(crate) struct Network<'a> {
 pub(crate) struct Search<'n, 'a> {
     pub(crate) network: Network<'n>,
     pub(crate) room: &'a mut [u32],
-    pub(crate) marks: &'a mut [Option<Mark>],
+    pub(crate) marks: &'a mut [Marked],
     ghost roomed: { Roomed network.links.now network.left.now room.now },
     ghost tree: { Tree network.links.now network.lots.now marks.now } by { Prim.hlevel props },
 }

@@ -13,7 +13,7 @@ impl Search<'_, '_> {
         requires { arc.link < length self.now.network.links.now }
         ensures { result ≡ arc_to self.now.marks.now (tail self.now.network.links.now arc) }
     {
-        self.marks[self.network.tail(arc)]?.arc
+        self.marks[self.network.tail(arc)].arc()
     }
 
     // The lesser of an amount and the room along an arc.

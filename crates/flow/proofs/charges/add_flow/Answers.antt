@@ -1,4 +1,4 @@
-use Rattle.std.proofs.Common.{◌-◌, length, arith, ap, ◌∙◌}
+use Rattle.std.proofs.Common.{length, refl, arith, ap, ◌∙◌}
 use Rattle.parish.specs.View.{view}
 use Rattle.parish.proofs.Viewed.{parish_sound}
 use Rattle.bounds.specs.Adding.{added}
@@ -14,8 +14,9 @@ invariant_of-network c =
 
 pub invariant_of-search-clause-tree : goal.invariant_of-search-clause-tree
 invariant_of-search-clause-tree c =
-    scratch_tree c.links-2.result.now c.args.lots.now (length c.args.lots.now - 0) (omega arith)
-    (omega (arith, c.requires.fit.long, (parish_sound c.args.parish.now).few))
+    rw c.none-mark_scratch.ensures
+    (scratch_tree c.links-2.result.now c.args.lots.now (length c.args.lots.now) refl
+    (omega (arith, c.requires.fit.long, (parish_sound c.args.parish.now).few)))
 
 pub add_amounts-requires-clause-small : goal.add_amounts-requires-clause-small
 add_amounts-requires-clause-small c =
