@@ -1,5 +1,5 @@
 -- Sums over the numbers below n. Assumes nothing.
-use Rattle.std.proofs.Common.{◌≡◌, ℕ, zero, suc, ◌+◌, ◌<◌, ◌≤◌, List, [], ◌∷◌, length, get_or, sum, sym, refl, ap, ◌∙◌, ap₂, inl, inr, not-suc-le-zero, add-zero, zero-add, arith}
+use Rattle.std.proofs.Common.{◌≡◌, ℕ, zero, suc, ◌+◌, ◌<◌, ◌≤◌, List, [], ◌∷◌, length, get_or, sum, sym, refl, ap, ◌∙◌, ap₂, inl, inr, not-suc-le-zero, add-zero, zero-add, add-one, arith}
 use Rattle.std.proofs.lemmas.Bool.Decides.{eqb_tells}
 use Rattle.bounds.proofs.Sums.{sum_cons}
 use Rattle.bounds.specs.Sums.{sum_below}
@@ -74,3 +74,7 @@ sum_below_has (suc n) j f l =
 pub sum_by_index : (xs : List ℕ) → sum xs ≡ sum_below (length xs) (λ k. get_or xs k 0)
 sum_by_index [] = refl
 sum_by_index (x ∷ xs) = omega (arith, sum_cons x xs, sum_by_index xs, sum_below_front (length xs) (λ k. get_or (x ∷ xs) k 0))
+
+-- one term more, as a loop counts
+pub sum_below_more : (n : ℕ) (f : ℕ → ℕ) → sum_below (n + 1) f ≡ sum_below n f + f n
+sum_below_more n f = ap (λ i. sum_below i f) (add-one n)

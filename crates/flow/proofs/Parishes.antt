@@ -1,7 +1,6 @@
 -- The network of a parish, and the flow through it. Assumes nothing.
 use Rattle.std.proofs.Common.{◌≡◌, ℕ, ◌+◌, ◌≤◌, List, length, get_or, ap, ◌∙◌, ap₂, arith}
 use Rattle.parish.specs.Limits.{strongest_held}
-use Rattle.parish.specs.Model.{Sound}
 use Rattle.parish.specs.View.{view}
 use Rattle.parish.specs.declared.items.Link.{Link}
 use Rattle.parish.specs.declared.store.Parish.{Parish}
@@ -14,8 +13,8 @@ use Rattle.bounds.proofs.Left.{length_left}
 use Rattle.flows.specs.Paths.{amounts}
 use Rattle.flows.specs.Levels.{by_levels, chosen_room, flow_charges}
 use Rattle.flows.specs.Trees.{IsNetwork}
-use Rattle.flows.proofs.Ends.{sound_within}
 use Rattle.flows.proofs.Theorems.{chosen_left, left_small, chosen_searches}
+use Rattle.flow.proofs.Sent.{links_network}
 
 module _ (p : Parish) {lots : List ℕ} (charges : List ℕ) (ok : Lots (view p) lots) where
   -- what charges leave of the links of a parish
@@ -27,16 +26,7 @@ module _ (p : Parish) {lots : List ℕ} (charges : List ℕ) (ok : Lots (view p)
 
   pub parish_network : {ls : List Link} {left : List ℕ} → ls ≡ (view p).links → left ≡ left_in → IsNetwork ls left (length lots)
   parish_network links is =
-      let sound : Sound (view p) = parish_sound p in
-      let fits : IsNetwork (view p).links (left_of (view p).links charges) (length lots) =
-      record {
-        ends = sound_within (view p) lots sound ok;
-        few = omega (arith, ok.long, sound.few);
-        short = sound.short;
-        left_long = length_left (view p).links charges;
-        small = left_small (view p) charges sound;
-      } in
-      rw (links, is) fits
+      rw is (links_network p left_in ok (length_left (view p).links charges) (left_small (view p) charges (parish_sound p)) links)
 
   module _ {left left' room : List ℕ} (is : left ≡ left_in) (same : left' ≡ left) (chosen : room ≡ chosen_room (view p) lots left) where
     pub amounts_are : amounts left' room ≡ flow_charges (view p) lots left_in

@@ -45,7 +45,7 @@ abbrev pub scan_of : Bool → ℕ → Search → Scan
 scan_of grew sent t = record { grew = grew; sent = sent; room = t.room.now; marks = t.marks.now }
 
 -- two of these with the same parts
-scan_same : {g h : Bool} {x y : ℕ} {r q : List ℕ} {m n : List (Option Mark)} → g ≡ h → x ≡ y → r ≡ q → m ≡ n
+pub scan_same : {g h : Bool} {x y : ℕ} {r q : List ℕ} {m n : List (Option Mark)} → g ≡ h → x ≡ y → r ≡ q → m ≡ n
     → ◌≡◌ {A = Scan} (record { grew = g; sent = x; room = r; marks = m }) (record { grew = h; sent = y; room = q; marks = n })
 scan_same a b c d = cc
 

@@ -1,10 +1,17 @@
 -- The loop over searches: what holds before each, and what each and the last give. Assumes nothing.
-use Rattle.std.proofs.Common.{◌≡◌, ℕ, suc, ◌+◌, ◌-◌, ◌*◌, ◌<◌, ◌≤◌, List, length, sum, sym, refl, ap, ◌∙◌, subst, arith}
+use Rattle.std.proofs.Common.{◌≡◌, ℕ, suc, ◌+◌, ◌-◌, ◌*◌, ◌<◌, ◌≤◌, List, length, get_or, sum, sym, refl, ap, ◌∙◌, subst, arith}
 use Rattle.parish.specs.Limits.{most_links, strongest_held}
+use Rattle.parish.specs.Model.{Sound}
+use Rattle.parish.specs.View.{view}
 use Rattle.parish.specs.declared.items.Link.{Link}
+use Rattle.parish.specs.declared.store.Parish.{Parish}
+use Rattle.parish.proofs.Viewed.{parish_sound}
+use Rattle.bisection.specs.Lots.{Lots}
 use Rattle.bounds.proofs.Sums.{sum_most}
 use Rattle.flows.specs.Rounds.{Search as Seek, rounds, last_room, Searches as Sought}
 use Rattle.flows.specs.Levels.{by_levels}
+use Rattle.flows.specs.Trees.{IsNetwork}
+use Rattle.flows.proofs.Ends.{sound_within}
 use Rattle.flows.proofs.Rounds.{Holds, Ended, at_first, value_most, round_holds, round_ended, rounds_last, rounds_more}
 use Rattle.flows.proofs.Least.{ended_least}
 use Rattle.flows.proofs.Scanning.{by_levels_searches}
@@ -78,13 +85,13 @@ module _ {s t t' : Search} {value d : ℕ} (r : Round s t value) (q : SearchesOn
 
   -- nothing was
   module _ (none : d ≡ 0) where
-    last_is : t'.room.now ≡ last_room (seek_in s.network) s.network.left.now
+    pub last_is : t'.room.now ≡ last_room (seek_in s.network) s.network.left.now
     last_is =
         room_is
         ∙ sym (rounds_last s.network.links.now s.network.lots.now s.network.left.now (seek_in s.network) r.more t.room.now some_left (sym sent_is ∙ none))
         ∙ r.same
 
-    last_ended : Ended s.network.links.now s.network.lots.now s.network.left.now t'.room.now value
+    pub last_ended : Ended s.network.links.now s.network.lots.now s.network.left.now t'.room.now value
     last_ended =
         rw room_is
         (round_ended s.network.links.now s.network.lots.now s.network.left.now (seek_in s.network) good t.room.now value r.holds (sym sent_is ∙ none))
@@ -98,3 +105,18 @@ module _ {s t t' : Search} {value d : ℕ} (r : Round s t value) (q : SearchesOn
               (subst (λ (ls : List Link). Ended ls s.network.lots.now s.network.left.now t'.room.now value) of.links last_ended);
           room = λ m of. last_is ∙ ap (λ (ls : List Link). last_room (by_levels ls s.network.lots.now s.network.left.now) s.network.left.now) of.links;
         }
+
+-- of a parish whose links they are
+module _ (p : Parish) (left : List ℕ) {lots : List ℕ} (ok : Lots (view p) lots) (long : length left ≡ length (view p).links)
+    (small : (k : ℕ) → get_or left k 0 ≤ strongest_held) where
+  sound : Sound (view p)
+  sound = parish_sound p
+
+  pub links_network : {ls : List Link} → ls ≡ (view p).links → IsNetwork ls left (length lots)
+  links_network links =
+      rw links
+      (record { ends = sound_within (view p) lots sound ok; few = omega (arith, ok.long, sound.few); short = sound.short; left_long = long; small = small })
+
+  -- what is left in all fits
+  pub all_small : sum left ≤ strongest_held * most_links
+  all_small = omega (arith, sum_most left small, sound.short)

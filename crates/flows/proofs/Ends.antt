@@ -2,12 +2,17 @@
 use Rattle.std.proofs.Common.{ℕ, ◌<◌, List, length, arith}
 use Rattle.std.proofs.lemmas.Bool.{cond_both}
 use Rattle.flows.specs.declared.items.Arc.{Arc}
-use Rattle.flows.specs.Paths.{head}
+use Rattle.flows.specs.Paths.{tail, head}
 use Rattle.parish.specs.Model.{Model, Sound, no_link}
 use Rattle.parish.specs.declared.items.Link.{Link}
 use Rattle.bisection.specs.Lots.{Lots}
 use Rattle.bounds.specs.Left.{link_at}
 use Rattle.flows.specs.Trees.{Within}
+
+-- an arc comes from one of them, and leads to one
+pub tail_within : (n : ℕ) (ls : List Link) (a : Arc) → Within n ls → a.link < length ls → tail ls a < n
+tail_within n ls a within lt =
+    cond_both a.onward (link_at ls a.link).from (link_at ls a.link).to (λ v. v < n) (λ _. (within a.link lt).0) (λ _. (within a.link lt).1)
 
 pub head_within : (n : ℕ) (ls : List Link) (a : Arc) → Within n ls → a.link < length ls → head ls a < n
 head_within n ls a within lt =

@@ -28,6 +28,15 @@ pub record Counting (n : ℕ) (whole ts : List Tree) (goal left count : ℕ) : T
   pub on : (c : ℕ) → Least n (held_weight ts) left c → Least n (held_weight whole) goal (count + c)
   pub short : sum_below n (held_weight ts) < left → sum_below n (held_weight whole) < goal
 
+pub counting_start : (ts : List Tree) (goal : ℕ) → Counting (length ts) ts ts goal goal 0
+counting_start ts goal =
+    record {
+      long = omega arith;
+      within = omega arith;
+      on = λ c h. let e : c ≡ 0 + c = omega arith in subst (Least (length ts) (held_weight ts) goal) e h;
+      short = λ h. h;
+    }
+
 module _ {n : ℕ} {whole ws : List Tree} {goal left count : ℕ} (C : Counting n whole ws goal left count) where
   -- the heaviest is taken
   pub counting_more : (i rest : ℕ) (t : Tree) → t.weight ≡ 0 → i < n → 0 < held_weight ws i → ((k : ℕ) → k < n → held_weight ws k ≤ held_weight ws i) → 0 < left

@@ -145,6 +145,16 @@ module _ (g : Growth) (S : Stands g) (r : ℕ) (best : LightestBelow g.trees (gr
         (subst (λ H. Growing G H h.trees) (sym same) (subst (Growing G (grow G F r)) (sym joins.trees) grows_on))
 
 -- ---- no link leads from tree r: it is closed
+
+-- a tree that lived lives no more
+pub fewer_live : (n : ℕ) (trees : List Tree) (r : ℕ) (t : Tree) → r < n → r < length trees → t.live ≡ false → is_live trees r ≡ true
+    → alive n (set trees r t) < alive n trees
+fewer_live n trees r t there place off on =
+    let fall = sum_rise n r 1 (λ q. cond (is_live (set trees r t) q) 1 0) (λ q. cond (is_live trees q) 1 0) there
+    (λ q b ne. omega (arith, ap {B = ℕ} (λ x. cond x 1 0) (live_others trees r t q ne)))
+    (omega (arith, ap {B = ℕ} (λ x. cond x 1 0) (live_at trees r t place ∙ off), ap {B = ℕ} (λ x. cond x 1 0) on)) in
+    omega (arith, fall)
+
 module _ (g : Growth) (S : Stands g) (r : ℕ) (there : r < (ground_of g.question).households)
     (none : (j : ℕ) → j < (ground_of g.question).links → leads (ground_of g.question) (inside (forest_of g) r) (outside (ground_of g.question) (forest_of g)) j ≡ false) where
   abbrev closed_tree : Tree
@@ -172,12 +182,7 @@ module _ (g : Growth) (S : Stands g) (r : ℕ) (there : r < (ground_of g.questio
 
   pub fewer_alive : is_live g.trees r ≡ true → (m : ℕ) → alive (ground_of g.question).households g.trees ≡ m
       → alive (ground_of g.question).households (set g.trees r closed_tree) < m
-  fewer_alive on m all =
-      let n : ℕ = (ground_of g.question).households in
-      let fall = sum_rise n r 1 (λ q. cond (is_live (set g.trees r closed_tree) q) 1 0) (λ q. cond (is_live g.trees q) 1 0) there
-      (λ q b ne. omega (arith, ap {B = ℕ} (λ x. cond x 1 0) (live_others g.trees r closed_tree q ne)))
-      (omega (arith, ap {B = ℕ} (λ x. cond x 1 0) (live_at g.trees r closed_tree place), ap {B = ℕ} (λ x. cond x 1 0) on)) in
-      omega (arith, fall)
+  fewer_alive on m all = omega (arith, fewer_live (ground_of g.question).households g.trees r closed_tree there place refl on)
 
 -- ---- no tree is live: the forest is whole
 pub grown_whole : (g : Growth) → Stands g → ((q : ℕ) → q < (ground_of g.question).households → is_live g.trees q ≡ false) → Whole (ground_of g.question) g

@@ -57,7 +57,7 @@ module _ (q : Question) where
   pub weight_most : (v : ℕ) → v < (ground_of q).households → (ground_of q).weight v ≤ heaviest_held
   weight_most v lt = q.weights v no_household lt
 
-  off_most : (F : Forest) (v : ℕ) → v < (ground_of q).households → weight_off (ground_of q) F v ≤ heaviest_held
+  pub off_most : (F : Forest) (v : ℕ) → v < (ground_of q).households → weight_off (ground_of q) F v ≤ heaviest_held
   off_most F v lt =
       cond_both ((ground_of q).away v || outside (ground_of q) F v) ((ground_of q).weight v) 0 (λ w. w ≤ heaviest_held)
       (λ _. weight_most v lt) (λ _. omega arith)
@@ -71,7 +71,7 @@ module _ (q : Question) where
       ne_eqb (get_or q.lots.now v 0) (lot_byte (other q.home)) (λ z. omega (arith, eqb-true (get_or q.lots.now v 0) 0 e, byte_some (other q.home)))
 
   -- what the households take from the target, in all
-  off_below : (F : Forest) → sum_below (ground_of q).households (weight_off (ground_of q) F)
+  pub off_below : (F : Forest) → sum_below (ground_of q).households (weight_off (ground_of q) F)
       ≡ weight_of (ground_of q) (ground_of q).away + weight_of (ground_of q) (outside (ground_of q) F)
   off_below F =
       sum_below_same (ground_of q).households _ _ (λ v lt. one ((ground_of q).away v) ((ground_of q).unset v) (is_none (root_of F v)) ((ground_of q).weight v) (unset_away v))

@@ -1,5 +1,5 @@
 -- Every parish keeps its limits. Assumes nothing.
-use Rattle.std.proofs.Common.{◌≡◌, ℕ, ◌*◌, ◌≤◌, length, vec_items, subst, arith, rules}
+use Rattle.std.proofs.Common.{◌≡◌, ℕ, ◌*◌, ◌<◌, ◌≤◌, List, length, get_or, vec_items, sym, subst, arith, rules}
 use Rattle.std.specs.Int.{div_ceil}
 use Rattle.std.proofs.lemmas.Nat.{mul-le}
 use Rattle.std.proofs.ByRecursion.{All-from_get_or, sum_by_le}
@@ -18,6 +18,13 @@ parish_sound p =
       short = search rules;
       joined = subst (λ n. Joined n (vec_items p.links)) p.households.ok.0 p.joined;
     }
+
+-- a household of the parish, read from a list that is its households
+pub household_light : (p : Parish) (hs : List Household) (k : ℕ) → hs ≡ (view p).households → k < length hs
+    → ((get_or hs k no_household).weight ≤ heaviest_held) × (length hs ≤ most_households)
+household_light p hs k e lt =
+    subst (λ xs. k < length xs → ((get_or xs k no_household).weight ≤ heaviest_held) × (length xs ≤ most_households)) (sym e)
+    (λ below. ((parish_sound p).weights k no_household below, (parish_sound p).few)) lt
 
 -- the total weight of a parish fits with room to spare
 pub total_held : (p : Parish) → total_weight (view p).households ≤ most_households * heaviest_held

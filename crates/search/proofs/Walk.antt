@@ -1,5 +1,6 @@
 -- The standing nodes by a walk, over any test C for closed. Assumes nothing.
 use Rattle.std.proofs.Common.{◌≡◌, ℕ, zero, suc, Bool, true, false, cond, not, ◌&&◌, List, [], ◌∷◌, ◌++◌, map, filter, refl, ap, ◌∙◌, ap₂}
+use Rattle.std.proofs.Math.Path.{fun_ext}
 use Rattle.std.proofs.lemmas.List.Elements.{filter-append, filter_agree}
 use Rattle.std.proofs.lemmas.List.Folds.{list_all-map}
 use Rattle.parish.specs.declared.items.Lot.{Lot}
@@ -41,3 +42,7 @@ walked (suc k) C =
         ≡ cond b [] (map (λ n. A ∷ n) (walk (λ n. C (A ∷ n)) k) ++ map (λ n. B ∷ n) (walk (λ n. C (B ∷ n)) k))
     joined true = refl
     joined false = refl
+
+-- the walk by two tests that agree
+pub walk_same : (k : ℕ) (C D : List Lot → Bool) → ((n : List Lot) → C n ≡ D n) → walk C k ≡ walk D k
+walk_same k C D h = ap (λ test. walk test k) (fun_ext h)

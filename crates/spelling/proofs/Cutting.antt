@@ -1,12 +1,12 @@
 -- Cutting bytes at a separator, and putting the pieces together again. Assumes nothing.
-use Rattle.std.proofs.Common.{◌≡◌, ◌≢◌, ℕ, Option, Some, None, Bor, ◌+◌, ◌-◌, ◌<◌, ◌≤◌, true, false, cond, ◌||◌, eqb, List, [], ◌∷◌, ◌++◌, length, take, drop, sym, refl, ap, ◌∙◌, subst, arith, eq-eqb, ne_eqb, eqb-true}
+use Rattle.std.proofs.Common.{◌≡◌, ◌≢◌, ℕ, Option, Some, None, Bor, ◌+◌, ◌-◌, ◌<◌, ◌≤◌, true, false, cond, ◌||◌, eqb, List, [], ◌∷◌, ◌++◌, length, get_or, take, drop, sym, refl, ap, ◌∙◌, subst, arith, eq-eqb, ne_eqb, eqb-true}
 use borrow.Author.Tests.{eqb-false, clash}
 use Rattle.std.proofs.ByRecursion.{All-from_get_or}
-use Rattle.std.proofs.lemmas.List.{drop-drop, drop_more, get_or-take, length-drop, length-take-le, take-append-drop}
+use Rattle.std.proofs.lemmas.List.{drop-drop, drop_more, get_or_past, get_or-take, length-drop, length-take-le, take-append-drop}
 use Rattle.std.proofs.lemmas.Grind.{common_steps}
 use Rattle.std.proofs.lemmas.Option.{unwrap_or-slice_get}
 use Rattle.std.specs.Option.{option_map, unwrap_or}
-use Rattle.std.specs.List.{AllByRecursion, AllWithin, HoldsAt, list_any, slice_split, slice_get, onto_first}
+use Rattle.std.specs.List.{AllByRecursion, list_any, slice_split, slice_get, onto_first}
 use Rattle.spelling.specs.Pieces.{onto, pieces, glued, Lacks, PiecesAreTheCut, numbered}
 
 -- there is always a first piece
@@ -109,35 +109,42 @@ pieces_are_the_cut b s = (
 )
 
 -- by places: the first separator stands at n
-lacks_front : (b n : ℕ) (s : List ℕ) → n ≤ length s → AllWithin (λ x. x ≢ b) s 0 n → Lacks b (take n s)
+lacks_front : (b n : ℕ) (s : List ℕ) → n ≤ length s → ((k : ℕ) → k < n → get_or s k 0 ≡ b → ⊥) → Lacks b (take n s)
 lacks_front b n s le ne =
     let len = length-take-le n s le in
-    All-from_get_or (λ x. x ≢ b) (take n s) 0 (λ k lt e. let below : k < n = omega arith in ne k 0 (omega arith) below (sym (get_or-take n s k 0 below) ∙ e))
+    All-from_get_or (λ x. x ≢ b) (take n s) 0 (λ k lt e. let below : k < n = omega arith in ne k below (sym (get_or-take n s k 0 below) ∙ e))
 
-pieces_found : (b n : ℕ) (s : List ℕ) → n < length s → HoldsAt (λ x. x ≡ b) s n → AllWithin (λ x. x ≢ b) s 0 n → pieces b s ≡ take n s ∷ pieces b (drop (n + 1) s)
-pieces_found b n s lt here ne =
+pub pieces_found : (b n : ℕ) (s : List ℕ) → n < length s → ((k : ℕ) → k < n → get_or s k 0 ≡ b → ⊥) → get_or s n 0 ≡ b
+    → pieces b s ≡ take n s ∷ pieces b (drop (n + 1) s)
+pieces_found b n s lt ne here =
     let whole : s ≡ take n s ++ (b ∷ drop (n + 1) s) =
-    sym (take-append-drop n s) ∙ ap (λ xs. take n s ++ xs) (drop_more s n 0 lt ∙ ap (λ x. x ∷ drop (n + 1) s) (here 0)) in
+    sym (take-append-drop n s) ∙ ap (λ xs. take n s ++ xs) (drop_more s n 0 lt ∙ ap (λ x. x ∷ drop (n + 1) s) here) in
     ap (pieces b) whole ∙ pieces_at b (take n s) (drop (n + 1) s) (lacks_front b n s (omega arith) ne)
 
+pub pieces_none : (b : ℕ) (s : List ℕ) → ((k : ℕ) → k < length s → get_or s k 0 ≡ b → ⊥) → pieces b s ≡ s ∷ []
+pieces_none b s ne = pieces_whole b s (All-from_get_or (λ x. x ≢ b) s 0 ne)
+
 -- a reader of `bytes` that found the separator n bytes on in what is unread
-pub part_found : (b n place : ℕ) (bytes unread rest : List ℕ) → drop place bytes ≡ unread → rest ≡ unread
-    → (n < length rest) × HoldsAt (λ x. x ≡ b) rest n × AllWithin (λ x. x ≢ b) rest 0 n
+pub part_found : (b n place : ℕ) (bytes unread rest : List ℕ) → drop place bytes ≡ unread → rest ≡ unread → n < length rest
+    → ((k : ℕ) → k < n → get_or rest k 0 ≡ b → ⊥) → get_or rest n 0 ≡ b
     → (pieces b unread ≡ take n rest ∷ pieces b (drop (place + (n + 1)) bytes))
     × (length (drop (place + (n + 1)) bytes) < length unread)
     × (place + (n + 1) ≤ length bytes)
-part_found b n place bytes unread rest view e first =
+part_found b n place bytes unread rest view e lt ne here =
     let on : drop (n + 1) rest ≡ drop (place + (n + 1)) bytes = ap (drop (n + 1)) (e ∙ sym view) ∙ drop-drop (n + 1) place bytes in
     let long : length rest ≡ length bytes - place = ap length (e ∙ sym view) ∙ length-drop place bytes in
     let less = length-drop (n + 1) rest in
     let same = ap length on in
     let whole = ap length e in
-    (ap (pieces b) (sym e) ∙ pieces_found b n rest first.0 first.1 first.2 ∙ ap (λ s. take n rest ∷ pieces b s) on, omega arith, omega arith)
+    (ap (pieces b) (sym e) ∙ pieces_found b n rest lt ne here ∙ ap (λ s. take n rest ∷ pieces b s) on, omega arith, omega arith)
 
 -- and one that found none
-pub part_none : (b : ℕ) (unread rest : List ℕ) → rest ≡ unread → AllWithin (λ x. x ≢ b) rest 0 (length rest) → pieces b unread ≡ unread ∷ []
-part_none b unread rest e ne =
-    subst (λ s. pieces b s ≡ s ∷ []) e (pieces_whole b rest (All-from_get_or (λ x. x ≢ b) rest 0 (λ k lt. ne k 0 (omega arith) lt)))
+pub part_none : (b : ℕ) (unread rest : List ℕ) → rest ≡ unread → ((k : ℕ) → k < length rest → get_or rest k 0 ≡ b → ⊥) → pieces b unread ≡ unread ∷ []
+part_none b unread rest e ne = subst (λ s. pieces b s ≡ s ∷ []) e (pieces_none b rest ne)
+
+-- past the last piece there is nothing
+pub numbered_past : (b k : ℕ) (s : List ℕ) → pieces b s ≡ s ∷ [] → 2 ≤ k → numbered k (pieces b s) ≡ []
+numbered_past b k s e le = ap (numbered k) e ∙ get_or_past ([] ∷ (s ∷ [])) k [] le
 
 -- the pieces are those that the library cuts
 onto_first_piece : (x : ℕ) (ps : List (List ℕ)) → onto x ps ≡ onto_first x ps

@@ -1,12 +1,13 @@
 -- Number fields and pin fields in words. Assumes nothing.
-use Rattle.std.proofs.Common.{◌≡◌, ℕ, ◌+◌, ◌-◌, ◌^◌, ◌<◌, ◌≤◌, true, false, cond, ◌&&◌, eqb, leb, List, [], ◌∷◌, length, get_or, Some, None, decimal, Decides, Option, sym, refl, ap, ◌∙◌, subst, ⊎_elim, zero-add, arith, rules, ne_eqb, eqb-true, le-leb}
+use Rattle.std.proofs.Common.{◌≡◌, ℕ, ◌+◌, ◌-◌, ◌*◌, ◌^◌, ◌<◌, ◌≤◌, true, false, cond, ◌&&◌, eqb, leb, List, [], ◌∷◌, length, get_or, take, drop, Some, None, decimal, Decides, Option, sym, refl, ap, ◌∙◌, subst, ⊎_elim, pow-suc, zero-add, add-one, arith, rules, ne_eqb, eqb-true, le-leb}
 use native.Mathlib.Nat.{pow-le-pow_right}
 use borrow.Author.Tests.{eqb-false}
 use Rattle.std.proofs.lemmas.Fmt.{decimal_digit, decimal_nonempty, decimal-digits_value, digits_decimal, first_decimal, length-decimal-le, digits_value-decimal}
 use Rattle.std.proofs.ByRecursion.{All-from_get_or}
-use Rattle.std.proofs.lemmas.List.{nil_from_length}
+use Rattle.std.proofs.lemmas.List.{at_drop_more, nil_from_length}
 use Rattle.std.proofs.lemmas.Str.Parse.{IsNumeralModel, not_in_digits, numerals_by_fold, digits_value_short}
 use Rattle.std.proofs.lemmas.Option.{none-some, cond_some}
+use Rattle.std.proofs.lemmas.Slice.{first_rest}
 use Rattle.std.proofs.lemmas.Slice.Eq.{slice_eq-Decides}
 use Rattle.std.proofs.lemmas.Bool.{and_parts, cases_eq}
 use Rattle.std.proofs.lemmas.Bool.Decides.{nat_tests, Decides-eqb}
@@ -76,6 +77,9 @@ digit_low d e = grind (arith, nat_tests)
 
 pub digit_high : (d : ℕ) → is_ascii_digit d ≡ true → d ≤ 57
 digit_high d e = grind (arith, nat_tests)
+
+pub digit_small : (d : ℕ) → is_ascii_digit d ≡ true → d - 48 < 10
+digit_small d e = omega (arith, digit_high d e)
 
 -- a first digit 1 to 9, and the rest
 number_first : (d : ℕ) (ds : List ℕ) → 49 ≤ d → d ≤ 57 → length ds ≤ 6 → number_of (d ∷ ds) ≡ read_on (d - 48) ds
@@ -172,6 +176,22 @@ pin_plain None = ((λ e. omega arith, tt), (λ e. omega arith, tt))
 pin_plain (Some A) = ((λ e. omega arith, tt), (λ e. omega arith, tt))
 pin_plain (Some B) = ((λ e. omega arith, tt), (λ e. omega arith, tt))
 
+-- ---- reading digits one by one
+pub read_step : (n i : ℕ) (ds : List ℕ) → i < length ds → is_ascii_digit (get_or ds i 0) ≡ true
+    → read_on n (drop i ds) ≡ read_on (n * 10 + (get_or ds i 0 - 48)) (drop (i + 1) ds)
+read_step n i ds lt d = at_drop_more (read_on n) ds i 0 lt ∙ simp d
+
+pub read_stop : (n i : ℕ) (ds : List ℕ) → i < length ds → is_ascii_digit (get_or ds i 0) ≡ false → read_on n (drop i ds) ≡ None
+read_stop n i ds lt d = at_drop_more (read_on n) ds i 0 lt ∙ simp d
+
+-- one digit more
+pub power_step : (n v i : ℕ) → n < 10 ^ (i + 1) → v < 10 → n * 10 + v < 10 ^ (i + 1 + 1)
+power_step n v i h l = rw (add-one (i + 1), pow-suc) (omega arith)
+
 pub power_bound : (n i : ℕ) → n < 10 ^ (i + 1) → i < 6 → n < 1000000
 power_bound n i h l =
     let p : 10 ^ (i + 1) ≤ 10 ^ 6 = pow-le-pow_right {n = 10} (omega arith) {i = i + 1} {j = 6} (omega arith) in omega arith
+
+pub first_digit : (f : List ℕ) → 0 < length f → 49 ≤ get_or f 0 0 → get_or f 0 0 ≤ 57 → length (take (length f - 1) (drop 1 f)) ≤ 6
+    → number_of f ≡ read_on (get_or f 0 0 - 48) (take (length f - 1) (drop 1 f))
+first_digit f some low high short = ap number_of (first_rest f 0 some) ∙ number_first (get_or f 0 0) (take (length f - 1) (drop 1 f)) low high short

@@ -1,21 +1,25 @@
 -- Both kinds of sheet are lawful. Assumes nothing.
-use Rattle.std.proofs.Common.{◌≡◌, ℕ, ◌^◌, ◌<◌, ◌≤◌, Bool, true, not, ◌&&◌, eqb, ltb, leb, List, [], ◌∷◌, ◌++◌, length, get_or, is_some, Some, None, codes, decimal, Option, unwrap_or, sym, refl, ap, ◌∙◌, subst, arith, le-ltb, ne_eqb}
+use Rattle.std.proofs.Common.{◌≡◌, ℕ, ◌^◌, ◌<◌, ◌≤◌, Bool, true, not, ◌&&◌, eqb, ltb, leb, List, [], ◌∷◌, ◌++◌, length, get_or, is_some, Some, None, Err, codes, decimal, Option, unwrap_or, sym, refl, ap, ◌∙◌, subst, arith, le-ltb, ne_eqb}
 use borrow.Author.Tests.{eqb-false, lt-leb, not-true, clash}
 use Rattle.std.proofs.lemmas.Bool.Decides.{nat_tests}
 use Rattle.std.proofs.lemmas.Grind.{common_steps}
 use Rattle.std.proofs.lemmas.List.{append_assoc, append-nil, get_or_at, length-append, length_push}
 use Rattle.std.proofs.lemmas.Bool.{and_parts, or_from}
+use Rattle.std.specs.Option.{option_map}
 use Rattle.parish.proofs.Kept.{weights_push, joined_push, joined_among_more}
 use Rattle.parish.specs.declared.items.Link.{Link}
+use Rattle.parish.specs.declared.refusals.Refusal.{Refusal}
+use Rattle.parish.specs.Edits.{Edited, answer_by, left_by, link_table}
 use Rattle.parish.specs.Limits.{Joins}
 use Rattle.parish.specs.Model.{Model}
+use Rattle.parish.specs.Refusals.{first_applying}
 use Rattle.spelling.specs.Fields.{number_of, pin_of, pin_field}
-use Rattle.spelling.specs.Kinds.{households_kind, links_kind}
+use Rattle.spelling.specs.Kinds.{households_kind, links_kind, blamed_in_link}
 use Rattle.faults.specs.declared.Place.{Place}
-use Rattle.spelling.specs.Lines.{first_unwanted, spelt, spelt_by, household_by, link_by}
+use Rattle.spelling.specs.Lines.{accepted as accepted-by, first_unwanted, spelt, spelt_by, household_by, link_by}
 use Rattle.spelling.specs.Pieces.{Lacks, pieces}
 use Rattle.spelling.proofs.Digits.{number_fields, number_plain, pin_fields, pin_of_field, pin_plain}
-use Rattle.spelling.proofs.Reading.{LawfulKind}
+use Rattle.spelling.proofs.Reading.{LawfulKind, answer_err}
 
 some_value : {X : Type 0} (o : Option X) (d : X) → is_some o ≡ true → o ≡ Some (unwrap_or o d)
 some_value None d e = absurd (clash e)
@@ -168,10 +172,10 @@ links_lawful =
     }
 
 -- ---- field by field
-household_by_fields : (p : Place) (a b : List ℕ) → household_by p a b ≡ spelt_by households_kind p (a ∷ (b ∷ []))
+pub household_by_fields : (p : Place) (a b : List ℕ) → household_by p a b ≡ spelt_by households_kind p (a ∷ (b ∷ []))
 household_by_fields p a b = grind (arith, common_steps)
 
-link_by_fields : (p : Place) (a b c : List ℕ) → link_by p a b c ≡ spelt_by links_kind p (a ∷ (b ∷ (c ∷ [])))
+pub link_by_fields : (p : Place) (a b c : List ℕ) → link_by p a b c ≡ spelt_by links_kind p (a ∷ (b ∷ (c ∷ [])))
 link_by_fields p a b c = grind (arith, common_steps)
 
 -- the fields that a line was cut into, one after another
@@ -183,3 +187,13 @@ pub link_spelt : (p : Place) (line a b c more rest : List ℕ) → pieces 44 lin
     → pieces 44 rest ≡ c ∷ [] → link_by p a b c ≡ spelt links_kind p line
 link_spelt p line a b c more rest one two three =
     link_by_fields p a b c ∙ ap (spelt_by links_kind p) (sym (one ∙ ap (λ fs. a ∷ fs) (two ∙ ap (λ fs. b ∷ fs) three)))
+
+-- a link that is refused
+pub link_refused : (p : Place) (m m' changed : Model) (l : Link) (n : ℕ) (k : Option ℕ) (e : Refusal) → Edited (link_table m l) n m changed m' (Err e)
+    → k ≡ blamed_in_link (length m.households) l e → (accepted-by links_kind p m l ≡ Err (record { place = p; field = k; refusal = e })) × (m' ≡ m)
+link_refused p m m' changed l n k e edited blamed =
+    let why = answer_err (first_applying (link_table m l)) n e (sym edited.answer) in (
+      ap (λ o. answer_by (option_map (λ d. record { place = p; field = blamed_in_link (length m.households) l d; refusal = d }) o) (links_kind.with_more m (l ∷ []))) why
+          ∙ ap (λ j. Err (record { place = p; field = j; refusal = e })) (sym blamed),
+      edited.leaves ∙ ap (λ o. left_by o m changed) why,
+    )

@@ -225,7 +225,13 @@ module _ {R : Type 0} (K : Kind R) where
       ∙ ap (λ t. cond t (lines_read K 2 m (pieces 10 after)) (Err (Line (WrongNames (place_of K 1)))))
       (ap (same line.now) (sym e) ∙ same_by_items line.now names.now)
 
-  names_right : (m : Model) (sheet after line : List ℕ) → pieces 10 sheet ≡ line ∷ pieces 10 after → line ≡ K.names
+  pub names_wrong : (m : Model) (sheet after line : List ℕ) → pieces 10 sheet ≡ line ∷ pieces 10 after → (line ≡ K.names → ⊥)
+      → sheet_read K m sheet ≡ Err (Line (WrongNames (place_of K 1)))
+  names_wrong m sheet after line cut ne =
+      names_step m sheet after line cut
+      ∙ cond-false (same line K.names) (lines_read K 2 m (pieces 10 after)) (Err (Line (WrongNames (place_of K 1)))) (differ line K.names ne)
+
+  pub names_right : (m : Model) (sheet after line : List ℕ) → pieces 10 sheet ≡ line ∷ pieces 10 after → line ≡ K.names
       → sheet_read K m sheet ≡ lines_read K 2 m (pieces 10 after)
   names_right m sheet after line cut e =
       names_step m sheet after line cut
