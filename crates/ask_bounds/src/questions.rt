@@ -7,7 +7,9 @@
 // not look at pins.
 use anyhow::{Context, anyhow};
 use parish::Link;
-use std::alloc::Global;
+use std::alloc::{AllocError, Global};
+use std::num::{ParseIntError, TryFromIntError};
+use thiserror::Error;
 
 #[derive(Drop)]
 pub(crate) struct Question<'a> {
@@ -16,6 +18,21 @@ pub(crate) struct Question<'a> {
     pub(crate) weights: Vec<u32>,
     pub(crate) lots: Vec<u8>,
     pub(crate) links: Vec<Link>,
+}
+
+// Why a list cannot be read. It is small, since a chain makes room for one at each item: an `anyhow::Error` holds its text.
+#[derive(Debug, Drop, Error)]
+enum ListFault {
+    #[error("a lot is not a digit")]
+    Lot,
+    #[error("a link has not three numbers")]
+    Link,
+    #[error(transparent)]
+    Number(#[from] ParseIntError),
+    #[error(transparent)]
+    TooLarge(#[from] TryFromIntError),
+    #[error(transparent)]
+    Memory(#[from] AllocError),
 }
 
 const TOO_FEW: &str = "a question has fewer than five parts";
@@ -39,35 +56,36 @@ pub(crate) fn read(heap: Global, line: &str) -> anyhow::Result<Question<'_>> {
     })
 }
 
-fn numbers_of(heap: Global, text: &str) -> anyhow::Result<Vec<u32>> {
+fn numbers_of(heap: Global, text: &str) -> Result<Vec<u32>, ListFault> {
     text.split_ascii_whitespace()
         .map(number_of)
         .try_collect(heap)
 }
 
-fn number_of(word: &str) -> anyhow::Result<u32> {
+fn number_of(word: &str) -> Result<u32, ListFault> {
     Ok(word.parse::<u32>()?)
 }
 
-fn lots_of(heap: Global, text: &str) -> anyhow::Result<Vec<u8>> {
-    text.chars().map(lot_of).try_collect(heap)
+// By bytes, which is faster than by characters: a character that is no digit has no byte that is one.
+fn lots_of(heap: Global, text: &str) -> Result<Vec<u8>, ListFault> {
+    text.bytes().map(lot_of).try_collect(heap)
 }
 
-fn lot_of(digit: char) -> anyhow::Result<u8> {
-    let lot = digit.to_digit(10).context("a lot is not a digit")?;
+fn lot_of(digit: u8) -> Result<u8, ListFault> {
+    let lot = char::from(digit).to_digit(10).ok_or(ListFault::Lot)?;
     Ok(u8::try_from(lot)?)
 }
 
-fn links_of(heap: Global, text: &str) -> anyhow::Result<Vec<Link>> {
+fn links_of(heap: Global, text: &str) -> Result<Vec<Link>, ListFault> {
     text.split_terminator(',')
         .map(|part| link_of(heap, part))
         .try_collect(heap)
 }
 
-fn link_of(heap: Global, text: &str) -> anyhow::Result<Link> {
+fn link_of(heap: Global, text: &str) -> Result<Link, ListFault> {
     let numbers = numbers_of(heap, text)?;
     let [from, to, strength] = numbers.as_slice() else {
-        return Err(anyhow!("a link has not three numbers"));
+        return Err(ListFault::Link);
     };
     Ok(Link {
         from: usize::try_from(*from)?,
