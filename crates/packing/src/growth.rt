@@ -30,8 +30,9 @@ pub(crate) struct Growth<'a> {
     // link, and with `Option<usize>` takes twice as long.
     pub(crate) tree_of: [u8; MOST_HOUSEHOLDS],
 
-    // 1 for each root link and tree link, else 0. Numbers, since they are added to the charges.
-    pub(crate) taken: [u32; MOST_LINKS],
+    // 1 for each root link and tree link, else 0. Numbers, since they are added to the charges, and bytes, since `pack` copies
+    // them: with `u32` a consult on four households takes half as long again.
+    pub(crate) taken: [u8; MOST_LINKS],
 
     // The tree with each household as its root. It weighs 0 where the household is no root, and is no Option: what weighs nothing
     // is not counted, and what is not live does not grow.

@@ -63,7 +63,7 @@ fn consult_over<B: LowerBound>(
 #[derive(Drop)]
 struct Packed {
     number: u32,
-    charges: [u32; MOST_LINKS],
+    charges: [u8; MOST_LINKS],
 }
 
 // Grows the forest of a question, and counts the trees that a bisection must hit, where a lot weighs at least so much.
@@ -84,14 +84,14 @@ fn pack(question: &Question, least: u32) -> Packed
 
 // Adds each extra charge to the charge in its place. One for this and its like in flow would be public, and ask by a `requires`
 // for room.
-fn add_taken(charges: &mut [u32], taken: &[u32])
+fn add_taken(charges: &mut [u32], taken: &[u8])
     requires same { length charges.old ≡ length taken.now }
     requires small { (k : ℕ) → slice_index charges.old k + slice_index taken.now k ≤ strongest_held }
     ensures { charges.new ≡ added charges.old taken.now }
 {
     // Written by index: of what is written through a zipped `iter_mut` the prover knows nothing.
     for (link, extra) in taken.iter().enumerate() {
-        charges[link] += *extra;
+        charges[link] += u32::from(*extra);
     }
 }
 
