@@ -3,7 +3,7 @@
 #![tactic(auto)]
 
 use anyhow::Context;
-use files::read_front;
+use files::{ROOM, read_front};
 use parish::Parish;
 use report::report_sheets;
 use std::io::Write;
@@ -14,8 +14,11 @@ fn main(rt: HostRuntime) -> anyhow::Result<()> {
     let heap = rt.alloc();
     let mut parish = Parish::new(heap)?;
     let mut spare = Parish::new(heap)?;
-    let households = read_front(&rt, heap, "households.csv")?;
-    let links = read_front(&rt, heap, "links.csv")?;
+    // Memory is asked for before a file is opened.
+    let households = Vec::with_capacity(heap, ROOM)?;
+    let links = Vec::with_capacity(heap, ROOM)?;
+    let households = read_front(&rt, "households.csv", households)?;
+    let links = read_front(&rt, "links.csv", links)?;
     // A report writes into lent bytes: so many hold any that there is.
     let mut out = [0; 128];
     let length = report_sheets(&mut parish, &mut spare, &households, &links, &mut out)
