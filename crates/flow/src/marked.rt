@@ -10,7 +10,7 @@ use std::marker::Model;
 // way along it are an arc at each level above 1.
 #[derive(Clone, Copy)]
 pub(crate) struct Marked {
-    level: u16,
+    level: u32,
     link: u16,
     onward: bool,
 }
@@ -49,7 +49,7 @@ impl Marked {
         requires { IsMark mark }
         ensures { result ≡ Some mark }
     {
-        let level = mark.level as u16;
+        let level = mark.level as u32;
         match mark.arc {
             Some(arc) => Marked {
                 level,
@@ -75,7 +75,7 @@ impl Marked {
         requires { 1 ≤ level }
         ensures { result ≡ option_map_or (λ m. m.level == level) self false }
     {
-        usize::from(self.level) == level
+        self.level as usize == level
     }
 
     // The arc of the mark, if there is a mark that has one.
