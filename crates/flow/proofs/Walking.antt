@@ -20,6 +20,10 @@ path_by s (Some a) = path_to s a
 abbrev pub before : Search → Arc → Option Arc
 before s a = arc_to s.marks.now (tail s.network.links.now a)
 
+-- sending along a path changes none
+pub before_kept : {s t : Search} {d : ℕ} {p : List Arc} → SendsAlong s t d p → (a : Arc) → before s a ≡ before t a
+before_kept sent a = ap₂ (λ (net : Network) (ms : List (Option Mark)). arc_to ms (tail net.links.now a)) (sym sent.network) (sym sent.marks)
+
 -- before an arc is taken: it is there, and the least room so far goes on to that of the whole path
 pub record Measuring (s : Search) (next : Option Arc) (sofar whole : ℕ) : Type 0 where
   pub there : (a : Arc) → next ≡ Some a → a.link < length s.network.links.now

@@ -61,7 +61,7 @@ impl Search<'_, '_> {
         requires deep { 1 ≤ depth }
         ensures { result ≡ leads_on_in self.now depth arc }
     {
-        // The level first: at most links that test fails, which a processor foresees.
+        // The level first: one comparison, which comes out alike at most links of a scan.
         self.marks[self.network.tail(arc)].is_at(depth)
             && self.marks[self.network.head(arc)].is_none()
             && self.room_along(arc) > 0

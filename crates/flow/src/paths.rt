@@ -24,13 +24,14 @@ impl Search<'_, '_> {
         amount.min(self.room_along(arc))
     }
 
-    // The least room along the path that an arc ends.
-    fn least_room(&self, last: Arc) -> u32
-        requires { last.link < length self.now.network.links.now }
+    // The least room along the path that an arc ends, from the arc before it on.
+    fn least_room(&self, last: Arc, before: Option<Arc>) -> u32
+        requires there { last.link < length self.now.network.links.now }
+        requires before { before ≡ arc_to self.now.marks.now (tail self.now.network.links.now last) }
         ensures { result ≡ least_room_in self.now last }
     {
         let mut least = self.room_along(last);
-        let mut next = self.before(last);
+        let mut next = before;
         while let Some(arc) = next {
             least = self.lesser(arc, least);
             next = self.before(arc);
@@ -40,11 +41,13 @@ impl Search<'_, '_> {
 
     // Sends an amount along the path that an arc ends.
     // The same walk again, of three lines: an iterator for both would be a type with a contract and a proof of its own.
-    fn send_back(&mut self, last: Arc, amount: u32)
-        requires { IsOpen self.old amount (path_to self.old last) }
+    fn send_back(&mut self, last: Arc, before: Option<Arc>, amount: u32)
+        requires open { IsOpen self.old amount (path_to self.old last) }
+        requires before { before ≡ arc_to self.old.marks.now (tail self.old.network.links.now last) }
         ensures { SendsAlong self.old self.new amount (path_to self.old last) }
     {
-        let mut next = Some(last);
+        self.send_along(last, amount);
+        let mut next = before;
         while let Some(arc) = next {
             self.send_along(arc, amount);
             next = self.before(arc);
@@ -57,8 +60,10 @@ impl Search<'_, '_> {
         ensures amount { result ≡ least_room_in self.old last }
         ensures after { SendsAlong self.old self.new result (path_to self.old last) }
     {
-        let amount = self.least_room(last);
-        self.send_back(last, amount);
+        // The arc before the last is looked up once for both walks: many paths have few arcs.
+        let before = self.before(last);
+        let amount = self.least_room(last, before);
+        self.send_back(last, before, amount);
         amount
     }
 }
