@@ -70,7 +70,7 @@ impl Marked {
         self.level == 0
     }
 
-    // Whether there is a mark, of a level.
+    // Whether there is a mark, of a level. By `as`: std has no `From` of 32 bits for a `usize`.
     pub(crate) fn is_at(self, level: usize) -> bool
         requires { 1 ≤ level }
         ensures { result ≡ option_map_or (λ m. m.level == level) self false }
