@@ -24,7 +24,7 @@ impl Search<'_, '_> {
         amount.min(self.room_along(arc))
     }
 
-    // The least room along the path that an arc ends, from the arc before it on.
+    // The least room along the path that an arc ends; the arc before it is given.
     fn least_room(&self, last: Arc, before: Option<Arc>) -> u32
         requires there { last.link < length self.now.network.links.now }
         requires before { before ≡ arc_to self.now.marks.now (tail self.now.network.links.now last) }
@@ -39,7 +39,7 @@ impl Search<'_, '_> {
         least
     }
 
-    // Sends an amount along the path that an arc ends.
+    // Sends an amount along the path that an arc ends; the arc before it is given.
     // The same walk again, of three lines: an iterator for both would be a type with a contract and a proof of its own.
     fn send_back(&mut self, last: Arc, before: Option<Arc>, amount: u32)
         requires open { IsOpen self.old amount (path_to self.old last) }
